@@ -1,25 +1,21 @@
 -- The tree to which a walk has come, added below all open places.
-use Rattle.std.proofs.Common.{◌≡◌, ◌≤◌, ◌+◌, ℕ, List, [], ◌∷◌, ◌++◌, Bool, true, map, take, drop, length, refl, sym, ap, ◌∙◌, arith, subst}
-use Rattle.std.specs.Prelude.{Some, slice_get, nat_lt, false}
+use Rattle.std.proofs.Common.{◌≡◌, ◌+◌, ℕ, List, [], ◌∷◌, ◌++◌, Bool, map, drop, length, refl, sym, ap, ◌∙◌, subst}
+use Rattle.std.specs.Prelude.{nat_lt, false}
 use Rattle.std.specs.List.{AllByRecursion}
-use Rattle.kept_states.specs.declared.kept_states.KeptState.{KeptState}
-use Rattle.kept_states.specs.Keeping.{StandsAt}
 use Rattle.rv32im_machine.specs.State.{State}
-use Rattle.every_secret.specs.declared.closed_states.Closed.{Closed}
 use Rattle.every_secret.specs.declared.closed_states.ClosedStates.{ClosedStates}
 use Rattle.every_secret.specs.declared.findings.Findings.{Findings}
 use Rattle.every_secret.specs.declared.judging.Judged.{Judged}
-use Rattle.every_secret.specs.declared.judging.Judged.TheVariants.{Add}
 use Rattle.every_secret.specs.declared.open_places.OpenPlace.{OpenPlace}
 use Rattle.every_secret.specs.declared.searching.Came.{Came}
 use Rattle.every_secret.specs.declared.searching.Search.{Search}
 use Rattle.every_secret.specs.declared.sums.Sum.{Sum}
-use Rattle.every_secret.specs.Bounds.{Found, pattern_limit, size_of}
-use Rattle.every_secret.specs.Paths.{Opens, Path, Tree, paths_of}
+use Rattle.every_secret.specs.Bounds.{pattern_limit, size_of}
+use Rattle.every_secret.specs.Paths.{Opens, Tree, paths_of}
 use Rattle.every_secret.specs.Private.Folding.{FoldsTo, IsKnown, stops_in}
 use Rattle.every_secret.specs.Private.Opened.{with_sum}
 use Rattle.every_secret.specs.Private.Orders.{earlier, past, under}
-use Rattle.every_secret.specs.Private.Searching.{Adds, AllLead, AreClosed, CameTo, CanGoBack, CanReturn, IsAdded, IsAddedTo, IsClosed, IsCome}
+use Rattle.every_secret.specs.Private.Searching.{Adds, AllLead, AreClosed, CameTo, CanGoBack, CanReturn, IsAdded, IsAddedTo, IsCome}
 use Rattle.every_secret.specs.Private.Searching.{IsJudged, IsOpen, JudgesSo, Stood, Terms, known_in, spot_of}
 use Rattle.every_secret.specs.Private.Spots.{Basis, LeadsTo, below_in, tree_in}
 use Rattle.every_secret.specs.Private.Sums.{sum_of_came}
@@ -27,7 +23,7 @@ use Rattle.every_secret.specs.Private.Tapes.{Tape}
 use Rattle.every_secret.proofs.AddedSums.{sums_added, sums_known}
 use Rattle.every_secret.proofs.EarlierPaths.{weaken_all}
 use Rattle.every_secret.proofs.Lists.{each_mapped, each_weaker}
-use Rattle.every_secret.proofs.SteppedSearches.{IsUnder, is_under}
+use Rattle.every_secret.proofs.SteppedSearches.{is_under}
 
 -- ---- the search can still go back
 

@@ -1,7 +1,7 @@
 -- A search after its last open place is closed.
-use Rattle.std.proofs.Common.{◌≡◌, ◌≤◌, ◌<◌, ◌+◌, ℕ, zero, suc, List, [], ◌∷◌, ◌++◌, Bool, Some, map, take, length}
+use Rattle.std.proofs.Common.{◌≡◌, ◌≤◌, ℕ, zero, suc, List, [], ◌∷◌, ◌++◌, Bool, Some, map, length}
 use Rattle.std.proofs.Common.{refl, sym, ap, ap₂, ◌∙◌, arith, subst, length-append, inl, inr}
-use Rattle.std.specs.Prelude.{slice_get, ◌⊎◌}
+use Rattle.std.specs.Prelude.{slice_get}
 use Rattle.std.specs.List.{AllByRecursion}
 use Rattle.kept_states.specs.declared.kept_states.KeptState.{KeptState}
 use Rattle.kept_states.specs.Keeping.{StandsAt}
@@ -11,7 +11,7 @@ use Rattle.every_secret.specs.declared.closed_states.ClosedStates.{ClosedStates}
 use Rattle.every_secret.specs.declared.open_places.OpenPlace.{OpenPlace}
 use Rattle.every_secret.specs.declared.searching.Search.{Search}
 use Rattle.every_secret.specs.Bounds.{Found}
-use Rattle.every_secret.specs.Private.Closing.{Closes, ClosesOpen, IsClosable, Stays, below_open}
+use Rattle.every_secret.specs.Private.Closing.{ClosesOpen, IsClosable, below_open}
 use Rattle.every_secret.specs.Private.Searching.{AllLead, AreClosed, CanGoBack, CanReturn, IsClosed, IsBasis, IsSettled, Settles, Stood}
 use Rattle.every_secret.specs.Private.Searching.{Terms, known_in, spot_of, turned_at}
 use Rattle.every_secret.specs.Private.Spots.{Basis, LeadsTo}

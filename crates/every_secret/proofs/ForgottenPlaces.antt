@@ -1,11 +1,11 @@
 -- The last open places may be forgotten.
-use Rattle.std.proofs.Common.{◌≡◌, ◌≤◌, ◌+◌, ℕ, zero, suc, List, [], ◌∷◌, Bool, map, take, length, refl, sym, ap, ◌∙◌, arith, subst}
+use Rattle.std.proofs.Common.{◌≡◌, ◌≤◌, ℕ, zero, suc, List, [], ◌∷◌, Bool, take, length, sym, ap, ◌∙◌, arith, subst}
 use Rattle.std.specs.List.{AllByRecursion}
 use Rattle.every_secret.specs.declared.closed_states.ClosedStates.{ClosedStates}
 use Rattle.every_secret.specs.declared.findings.Findings.{Findings}
 use Rattle.every_secret.specs.declared.open_places.OpenPlace.{OpenPlace}
 use Rattle.every_secret.specs.declared.searching.Search.{Search}
-use Rattle.every_secret.specs.Private.Searching.{AllLead, AreClosed, AreOpen, CanGoBack, CanGoOn, CanReturn, IsFoundBefore, IsOpen, IsSearched}
+use Rattle.every_secret.specs.Private.Searching.{AllLead, AreClosed, AreOpen, CanGoOn, CanReturn, IsFoundBefore, IsOpen}
 use Rattle.every_secret.specs.Private.Searching.{IsWalking, Stood, Terms, known_in, spot_at, spot_of}
 use Rattle.every_secret.specs.Private.Spots.{Basis, LeadsTo, tree_in}
 use Rattle.every_secret.specs.Private.Tapes.{HoldsPlace, Tape}

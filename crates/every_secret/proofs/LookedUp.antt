@@ -1,27 +1,24 @@
 -- A state that is looked up: it is closed, and what is below it is known, or it is open from now on.
-use Rattle.std.proofs.Common.{◌≡◌, ◌≤◌, ◌<◌, ◌+◌, ◌-◌, ◌^◌, ℕ, zero, suc, List, [], ◌∷◌, ◌++◌, Bool, true, false, Option, Some, None, map}
-use Rattle.std.proofs.Common.{refl, sym, ap, ap₂, ◌∙◌, arith, subst, take, drop, length, inl, inr}
+use Rattle.std.proofs.Common.{◌≡◌, ◌≤◌, ◌<◌, ◌+◌, ◌-◌, ℕ, List, [], ◌∷◌, ◌++◌, Bool, Some, map}
+use Rattle.std.proofs.Common.{refl, sym, ap, ◌∙◌, arith, subst, take, drop, length, inl, inr}
 use Rattle.std.specs.Prelude.{IsTrue, slice_get}
 use Rattle.std.specs.List.{AllByRecursion}
 use Rattle.std.proofs.lemmas.List.{map-append}
 use Rattle.std.proofs.Math.ListN.{drop_of_length-le}
 use Rattle.std.proofs.lemmas.List.{take_all}
 use Rattle.crossing_bits.proofs.Feeding.{le_or_lt}
-use Rattle.crossing_bits.specs.Streams.{Stream}
 use Rattle.cut_file.specs.declared.points.CutPoint.{CutPoint}
 use Rattle.kept_states.specs.declared.kept_states.KeptState.{KeptState}
-use Rattle.kept_states.specs.Keeping.{Keeps, StandAlike, StandsAt}
+use Rattle.kept_states.specs.Keeping.{Keeps, StandsAt}
 use Rattle.kept_states.specs.Pieces.{Grows}
 use Rattle.kept_states.proofs.Laws.{keeps_grows, kept_alike}
 use Rattle.lockstep_replay.specs.Tasks.{Limits}
 use Rattle.region_machine.specs.Within.{may_leave}
 use Rattle.replay_machine.specs.Runs.{Masks}
-use Rattle.replay_machine.specs.Visits.{IsAhead}
 use Rattle.rv32im_machine.specs.State.{State}
 use Rattle.shadow_masks.specs.declared.labels.Label.{Label}
 use Rattle.shadow_masks.specs.Shades.{Shades}
 use Rattle.shadow_masks.specs.Writes.{LabelMap}
-use Rattle.tracked_run.specs.Labels.{map_of}
 use Rattle.every_secret.specs.declared.closed_states.Closed.{Closed}
 use Rattle.every_secret.specs.declared.closed_states.ClosedStates.{ClosedStates}
 use Rattle.every_secret.specs.declared.findings.Findings.{Findings}
@@ -36,9 +33,9 @@ use Rattle.every_secret.specs.Ways.{EndsOn}
 use Rattle.every_secret.specs.Private.Folding.{IsKnown, stops_in}
 use Rattle.every_secret.specs.Private.Orders.{earlier, past, under}
 use Rattle.every_secret.specs.Private.Searching.{AllLead, AreClosed, AreOpen, CameTo, CanReturn, IsClosed, IsCome, IsFoundBefore, IsBasis}
-use Rattle.every_secret.specs.Private.Searching.{IsKeptOf, IsMet, IsOpen, IsSearched, IsWalking, NonePast, Stood, Sums, Terms}
+use Rattle.every_secret.specs.Private.Searching.{IsKeptOf, IsOpen, IsSearched, IsWalking, NonePast, Stood, Sums, Terms}
 use Rattle.every_secret.specs.Private.Searching.{known_in, spot_at, spot_of}
-use Rattle.every_secret.specs.Private.Spots.{EndsBy, Basis, LeadsTo, Spot, below_in, tree_in}
+use Rattle.every_secret.specs.Private.Spots.{EndsBy, Basis, LeadsTo, below_in, tree_in}
 use Rattle.every_secret.specs.Private.Sums.{no_paths, sum_of_came}
 use Rattle.every_secret.specs.Private.Tapes.{HoldsPlace, Tape}
 use Rattle.every_secret.proofs.AddedSums.{sums_none}
@@ -46,7 +43,7 @@ use Rattle.every_secret.proofs.AlikeWays.{same_self}
 use Rattle.every_secret.proofs.EarlierPaths.{earlier_none, under_none, weaken_all}
 use Rattle.every_secret.proofs.Lists.{each_appended, each_weaker}
 use Rattle.every_secret.proofs.SameTrees.{same_ends, same_trees}
-use Rattle.every_secret.proofs.SpotWays.{leads_end, leads_here, leads_tree, under_after}
+use Rattle.every_secret.proofs.SpotWays.{leads_end, leads_here, leads_tree}
 
 -- ---- more pieces
 

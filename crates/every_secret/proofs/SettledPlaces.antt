@@ -1,12 +1,11 @@
 -- Open places before the next string.
-use Rattle.std.proofs.Common.{◌≡◌, ◌≤◌, ◌<◌, ◌+◌, ◌-◌, ◌^◌, ℕ, zero, suc, List, [], ◌∷◌, ◌++◌, Bool, true, false, Option, Some, None, map}
-use Rattle.std.proofs.Common.{refl, sym, ap, ap₂, ◌∙◌, arith, subst, take, drop, length, length-append, inl, inr}
+use Rattle.std.proofs.Common.{◌≡◌, ◌≤◌, ◌<◌, ◌+◌, ◌-◌, ℕ, List, [], ◌∷◌, ◌++◌, Bool, true, Some, map}
+use Rattle.std.proofs.Common.{sym, ap, ◌∙◌, arith, subst, take, drop, length, length-append}
 use Rattle.std.specs.List.{AllByRecursion}
 use Rattle.std.proofs.lemmas.List.{length-take}
 use Rattle.rv32im_machine.specs.State.{State}
 use Rattle.every_secret.specs.Bounds.{Found}
-use Rattle.every_secret.specs.Masked.{MaskedPlace}
-use Rattle.every_secret.specs.Paths.{Opens, Path, Tree, next_string, paths_of}
+use Rattle.every_secret.specs.Paths.{Path, Tree, next_string, paths_of}
 use Rattle.every_secret.specs.States.{EndsWithin}
 use Rattle.every_secret.specs.Ways.{Leads}
 use Rattle.every_secret.specs.Private.Closing.{IsClosable, below_open}

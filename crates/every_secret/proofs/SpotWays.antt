@@ -1,7 +1,7 @@
 -- How the places on the way of a search lead on while a walk takes bits of a string that grows.
-use Rattle.std.proofs.Common.{◌≡◌, ◌≤◌, ◌<◌, ◌+◌, ℕ, zero, suc, List, [], ◌∷◌, ◌++◌, length, drop, take, replicate, false, Bool, Option, None, Some}
-use Rattle.std.proofs.Common.{refl, sym, ap, ap₂, ◌∙◌, arith, subst, append_assoc, append-nil, ◌-◌, inl, inr, true}
-use Rattle.std.proofs.lemmas.List.{append_cancel_right, drop-append-le, length-append, length-take, take-append-drop, take-append-le}
+use Rattle.std.proofs.Common.{◌≡◌, ◌≤◌, ◌<◌, ◌+◌, ℕ, zero, suc, List, [], ◌∷◌, ◌++◌, length, drop, take, replicate, false, Bool}
+use Rattle.std.proofs.Common.{refl, sym, ap, ap₂, ◌∙◌, arith, subst, append_assoc, inl, inr, true}
+use Rattle.std.proofs.lemmas.List.{append_cancel_right, length-append, length-take, take-append-drop, take-append-le}
 use Rattle.crossing_bits.specs.Askers.{Asker, Asks, Fed', Over, feed}
 use Rattle.crossing_bits.proofs.Feeding.{feed_enough, feed_few, le_or_lt}
 use Rattle.crossing_bits.specs.Streams.{Stream, left_of}

@@ -1,10 +1,9 @@
 -- What holds while a tree is searched in depth.
-use Rattle.std.specs.Prelude.{◌≡◌, ◌≤◌, ◌<◌, ◌+◌, ℕ, suc, List, [], ◌∷◌, ◌++◌, length, map, take, drop, Bool, true, false, nat_lt}
+use Rattle.std.specs.Prelude.{◌≡◌, ◌≤◌, ◌<◌, ◌+◌, ℕ, List, [], ◌∷◌, ◌++◌, length, map, take, drop, Bool, true, false, nat_lt}
 use Rattle.std.specs.Prelude.{Option, Some, None, IsTrue, option_map, slice_get}
 use Rattle.std.specs.List.{AllByRecursion}
 use Rattle.cut_file.specs.declared.points.CutPoint.{CutPoint}
 use Rattle.cut_file.specs.Masks.{MaskAt}
-use Rattle.elf32_loader.specs.Images.{image_picture}
 use Rattle.enclosure_regions.specs.declared.region_parts.Region.{Region}
 use Rattle.kept_states.specs.declared.kept_states.KeptState.{KeptState}
 use Rattle.kept_states.specs.Keeping.{Keeps, StandsAt}
@@ -13,7 +12,6 @@ use Rattle.region_machine.specs.Within.{may_leave}
 use Rattle.replay_machine.specs.Runs.{Masks}
 use Rattle.replay_machine.specs.Visits.{IsAhead}
 use Rattle.rv32im_machine.specs.State.{State}
-use Rattle.rv32im_machine.specs.Start.{start}
 use Rattle.shadow_masks.specs.Labels.{clean}
 use Rattle.shadow_masks.specs.Shades.{Shades, kept_label, register_label}
 use Rattle.shadow_masks.specs.Writes.{default_map}

@@ -1,6 +1,5 @@
 -- What is known of the paths below a place that are done.
 use Rattle.std.specs.Prelude.{◌+◌, ◌-◌, ◌&&◌, min, max, ℕ, Bool, true, false, Option, Some, None}
-use Rattle.every_secret.specs.declared.closed_states.Closed.{Closed}
 use Rattle.every_secret.specs.declared.endings.Ending.{Ending}
 use Rattle.every_secret.specs.declared.endings.Ending.TheVariants as ending
 use Rattle.every_secret.specs.declared.searching.Came.{Came}

@@ -1,4 +1,4 @@
-use Rattle.std.proofs.Common.{◌≡◌, ◌≤◌, refl}
+use Rattle.std.proofs.Common.{refl}
 use Rattle.every_secret.specs.Private.Searching.{terms_of}
 use Rattle.every_secret.specs.Private.Tapes.{tape_of}
 use Rattle.every_secret.proofs.ForgottenPlaces.{goes_on_forgotten, walks_forgotten}

@@ -1,6 +1,5 @@
-use Rattle.std.proofs.Common.{◌≡◌, ◌+◌, ℕ, suc, Some, arith, subst, sym}
-use Rattle.every_secret.specs.declared.searching.Came.TheVariants.{Met}
-use Rattle.every_secret.specs.Private.Searching.{GoesOrEnds, IsCome, IsWalking, LooksUp}
+use Rattle.std.proofs.Common.{◌≡◌, ◌+◌, ℕ, suc, arith, subst, sym}
+use Rattle.every_secret.specs.Private.Searching.{GoesOrEnds, IsWalking, LooksUp}
 use Rattle.every_secret.specs.Private.Tapes.{tape_of}
 use Rattle.every_secret.proofs.searching.go_on_known.Goals as goal
 

@@ -1,11 +1,11 @@
-use Rattle.std.proofs.Common.{◌≡◌, ◌≤◌, ◌+◌, ◌∷◌, ◌++◌, [], refl, sym, ap, ap₂, ◌∙◌, arith, subst}
+use Rattle.std.proofs.Common.{◌∷◌, ◌++◌, [], refl, sym, ap, ap₂, ◌∙◌, arith, subst}
 use Rattle.std.specs.List.{AllByRecursion}
 use Rattle.kept_states.specs.Keeping.{Keeps}
 use Rattle.lockstep_replay.specs.Tasks.{Limits}
 use Rattle.every_secret.specs.declared.open_places.OpenPlace.{OpenPlace}
 use Rattle.every_secret.specs.declared.sums.Sum.{Sum}
 use Rattle.every_secret.specs.Private.Searching.{CanReturn, NonePast, Terms, terms_of}
-use Rattle.every_secret.specs.Private.Tapes.{Tape, tape_of}
+use Rattle.every_secret.specs.Private.Tapes.{tape_of}
 use Rattle.every_secret.proofs.Lists.{each_appended, each_weaker}
 use Rattle.every_secret.proofs.LookedUp.{is_met, is_opened, opened_can_return, returns_grown}
 use Rattle.every_secret.proofs.searching.look_up.Goals as goal

@@ -1,4 +1,4 @@
-use Rattle.std.proofs.Common.{◌≡◌, ◌≤◌, ◌<◌, ◌-◌, ℕ, suc, arith, subst, ◌∙◌}
+use Rattle.std.proofs.Common.{◌≡◌, ◌≤◌, ◌-◌, ℕ, suc, arith, subst, ◌∙◌}
 use Rattle.std.proofs.lemmas.Result.{IfOk-weaker}
 use Rattle.every_secret.specs.Private.Orders.{SameBefore}
 use Rattle.every_secret.specs.Private.Searching.{GoesOrEnds, IsCome, IsBasis, IsWalking, terms_of}

@@ -1,4 +1,4 @@
-use Rattle.std.proofs.Common.{◌≡◌, List, length, sym, refl, subst}
+use Rattle.std.proofs.Common.{List, length, refl, subst}
 use Rattle.std.proofs.lemmas.Result.{IfOk-weaker}
 use Rattle.every_secret.specs.declared.searching.Search.{Search}
 use Rattle.every_secret.specs.Paths.{Path}

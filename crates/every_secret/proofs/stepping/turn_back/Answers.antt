@@ -1,10 +1,10 @@
-use Rattle.std.proofs.Common.{◌≡◌, ◌≤◌, ◌<◌, ◌++◌, ◌∷◌, [], true, ℕ, List, Bool, Option, take, length, sym, ap, ◌∙◌, subst, arith}
+use Rattle.std.proofs.Common.{◌≡◌, ◌≤◌, ◌∷◌, ℕ, List, take, sym, ap, ◌∙◌, subst, arith}
 use Rattle.std.specs.Prelude.{IfOk, IfSome, Ok, Err, Result, slice_get}
 use Rattle.std.specs.List.{AllByRecursion}
 use Rattle.every_secret.specs.declared.open_places.OpenPlace.{OpenPlace}
 use Rattle.every_secret.specs.Paths.{Opens}
 use Rattle.every_secret.specs.Private.Searching.{IsDeep, IsSearched, turned_at}
-use Rattle.every_secret.specs.Private.Spots.{Basis, tree_in}
+use Rattle.every_secret.specs.Private.Spots.{tree_in}
 use Rattle.every_secret.specs.Private.Tapes.{Tape, tape_of}
 use Rattle.every_secret.proofs.SteppedSearches.{deep_next, searched_next}
 use Rattle.every_secret.proofs.stepping.turn_back.Goals as goal
