@@ -61,7 +61,8 @@ def trial(name, file, budget, regions, skip, points, text):
     is_used = bool(regions)
     files = {"program": file, "public": b"", "cut": Cut(1, budget, skip, points).text().encode()}
     files |= {"regions": regions} if is_used else {}
-    return name, files, ["bound", "program", "public", "cut", str(budget), *["--regions=regions"] * is_used], text
+    words = ["bound", "program", "public", "cut", str(budget), "--paths=300", *["--regions=regions"] * is_used]
+    return name, files, words, text
 
 
 def kept_trials():

@@ -57,6 +57,7 @@ def trial(name, loop, file, points, budget, text, *options, regions=None):
     length = loop if isinstance(loop, int) else loop.count
     files = {"program": file, "public": b"", "cut": Cut(length, budget, [], points).text().encode()}
     files |= {"regions": regions} if regions else {}
+    options += () if any(word.startswith("--paths") for word in options) else ("--paths=300",)
     words = ["bound", "program", "public", "cut", str(budget), *options, *["--regions=regions"] * bool(regions)]
     return name, files, words, text
 
