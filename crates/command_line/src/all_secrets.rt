@@ -14,7 +14,7 @@ pub struct AllSecretsWords<'a> {
     pub limits: Limits,
     /// The table of the mask rules, 1 or 2.
     pub table: u32,
-    /// The number of paths that are walked at most, 1 to 1,048,576.
+    /// The number of walks that are made at most, 1 to 1,048,576.
     pub paths: u32,
     /// Whether each pattern of outputs is listed.
     pub listed: bool,

@@ -79,7 +79,7 @@ pub record IsBoundedCheck (check : ReadCheck) : Type 0 where
   pub secrets : AreShort check.secrets.now
   pub known : has_table check.judging ≡ true
 
--- a path may be walked, and the table is 1 or 2
+-- a walk may be made, and the table is 1 or 2
 pub record IsBoundedAll (all : ReadAllSecrets) : Type 0 where
   pub some : 1 ≤ all.paths
   pub first : 1 ≤ all.table

@@ -31,7 +31,7 @@ pub struct AllSecretsTask<'a> {
     pub limits: Limits,
     /// The table of the mask rules.
     pub table: u32,
-    /// The number of paths that are walked at most.
+    /// The number of walks that are made at most.
     pub paths: u32,
     /// Whether each pattern of outputs is listed.
     pub listed: bool,
