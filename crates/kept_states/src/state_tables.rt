@@ -51,13 +51,6 @@ impl<'c> StateTable<'c> {
         self.size
     }
 
-    /// The state of a number.
-    pub fn get(&self, number: usize) -> Option<&KeptState<'c>>
-        ensures { IfSome result (λ kept. StandsAt self.now number kept.now) }
-    {
-        self.states.get(number)
-    }
-
     /// The number of a state that is the same. Where none is found there may yet be one.
     pub fn find(&self, state: &KeptState<'_>) -> Option<usize>
         ensures { IfSome result (λ number. StandsAt self.now number state.now) }
