@@ -60,7 +60,7 @@ back_added terms search after tape sum machine_is closed_is pieces_is opens_are 
   begins = opens_are ∙ ap (λ items. map (with_sum sum) items) back.begins;
   at_start = back.at_start;
   same_length = subst (λ (c : ClosedStates). length c.states ≡ length c.below.items) (sym closed_is) back.same_length;
-  table = back.table;
+  ruling = back.ruling;
   base = subst (λ m. tape.shades.base ≡ m.setting.base) (sym machine_is) back.base;
 }
 

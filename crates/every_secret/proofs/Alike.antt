@@ -1,8 +1,9 @@
--- Two turns that are the same but for the bytes that are written and the exit status, which agree outside their free bits;
--- and that the turn of an instruction is alike where the outputs so far are.
-use Rattle.std.proofs.Common.{◌≡◌, ℕ, zero, suc, ◌+◌, ◌%◌, ◌^◌, ◌==◌, Bool, true, false, List, [], ◌∷◌, ◌++◌}
-use Rattle.std.proofs.Common.{length, refl, ap, subst, Option, Some, None}
-use Rattle.std.specs.Prelude.{if◌then◌else◌}
+-- Two turns that are the same but for the bytes that are written and the exit status, which agree outside their free bits,
+-- and the bytes of the public input that are read; and that the turn of an instruction is alike where the outputs so far
+-- are.
+use Rattle.std.proofs.Common.{◌≡◌, ℕ, zero, suc, ◌+◌, ◌-◌, ◌%◌, ◌^◌, ◌==◌, ◌≤◌, Bool, true, false, List, [], ◌∷◌, ◌++◌}
+use Rattle.std.proofs.Common.{length, refl, ap, subst, arith, Option, Some, None}
+use Rattle.std.specs.Prelude.{if◌then◌else◌, slice_index}
 use Rattle.flow_base.specs.Words.{Agree}
 use Rattle.flow_base.specs.Guests.{is_inside}
 use Rattle.flow_base.specs.declared.points.Point.{Point}
@@ -20,7 +21,8 @@ use Rattle.guest_calls.specs.declared.kinds.CallKind.TheVariants.{Read, Write as
 use Rattle.guest_calls.specs.declared.kinds.CallKind.TheVariants.{Brk as BrkCall, Unknown}
 use Rattle.guest_calls.specs.declared.writing.WriteCheck.{WriteCheck}
 use Rattle.guest_calls.specs.declared.writing.WriteCheck.TheVariants.{Append, BadAddress, OverLimit}
-use Rattle.guest_calls.specs.Calls.{bad_address, bad_descriptor, checked_write, is_output, call_kind, unknown_call}
+use Rattle.guest_calls.specs.Calls.{bad_address, bad_descriptor, bytes_read, checked_write, is_output, is_public_input}
+use Rattle.guest_calls.specs.Calls.{is_secret_input, call_kind, unknown_call}
 use Rattle.rv32im_machine.specs.declared.stepping.Fault.{Fault}
 use Rattle.rv32im_machine.specs.declared.stepping.Fault.TheVariants.{Illegal, FetchOutside, FetchUnaligned}
 use Rattle.rv32im_machine.specs.declared.stepping.Fault.TheVariants.{LoadOutside, StoreOutside, Breakpoint, OutputLimit}
@@ -30,19 +32,25 @@ use Rattle.rv32im_machine.specs.declared.stepping.CallPlan.{CallPlan}
 use Rattle.rv32im_machine.specs.declared.stepping.CallPlan.TheVariants.{Answer, PublicRead, SecretRead, Write, Brk}
 use Rattle.rv32im_machine.specs.declared.stepping.CallPlan.TheVariants.{Exit, Stop}
 use Rattle.rv32im_machine.specs.declared.language.Place.{Place}
+use Rattle.rv32im_machine.specs.declared.language.Place.TheVariants.{Byte}
 use Rattle.rv32im_machine.specs.declared.language.Seen.{Seen}
 use Rattle.rv32im_machine.specs.declared.language.Shape.{Shape}
+use Rattle.rv32im_machine.specs.declared.language.Shape.TheVariants.{Copied}
 use Rattle.rv32im_machine.specs.declared.language.Source.{Source}
+use Rattle.rv32im_machine.specs.declared.language.Source.TheVariants.{Constant}
 use Rattle.rv32im_machine.specs.declared.language.Sources.{Sources}
 use Rattle.rv32im_machine.specs.State.{Setting, Control, onward, moved_to, ended, public_taken}
 use Rattle.rv32im_machine.specs.State.{secret_taken, break_moved, emitted}
 use Rattle.rv32im_machine.specs.Language.{Turn, Looks, Passes, Decides, Moves, Ends, Making}
 use Rattle.rv32im_machine.specs.Calls.{public_reads, secret_reads, writes, planned, answered, exits}
-use Rattle.rv32im_machine.specs.Calls.{kind_row, read_plan, write_plan, write_checked, break_plan}
+use Rattle.rv32im_machine.specs.Calls.{kind_row, public_plan, read_plan, secret_plan, write_plan, write_checked, break_plan}
 use Rattle.rv32im_machine.specs.Rows.{load_checked, store_at, store_checked, links, branches, row}
 use Rattle.rv32im_machine.specs.Rows.{fetched, running, stops}
 use Rattle.every_secret.specs.declared.shown.Shown.TheVariants.{Nothing, WrittenByte, ExitStatus}
+use Rattle.every_secret.specs.declared.public_inputs.PublicInput.{PublicInput}
+use Rattle.every_secret.specs.AnyPublic.{AreSeenAs}
 use Rattle.every_secret.specs.Listed.{AgreeEach, NoneLeft, OneMore}
+use Rattle.every_secret.specs.Rules.{public_mask}
 use Rattle.every_secret.specs.Shown.{shown_at}
 
 abbrev pub AgreeMode : ℕ → Stepped → Stepped → Type 0
@@ -67,37 +75,45 @@ agree_length (OneMore first rest) = ap suc (agree_length rest)
 abbrev pub with_output : Control → List ℕ → Stepped → Control
 with_output control output mode = record control { output = output; mode = mode }
 
+-- a setting with the public input that is seen
+abbrev pub seeing : Setting → List ℕ → Setting
+seeing setting seen = record setting { public_input = seen }
+
 -- two turns are alike, with these free bits of what was shown
-pub data Alike : List ℕ → ℕ → Turn → Turn → Type 0 where
+pub data Alike (public : PublicInput) : List ℕ → ℕ → Turn → Turn → Type 0 where
   Look : {masks : List ℕ} {mask : ℕ} {go to : ℕ → Turn} (seen : Seen) →
-      ((value : ℕ) → Alike masks mask (go value) (to value)) → Alike masks mask (Looks seen go) (Looks seen to)
+      ((value : ℕ) → Alike public masks mask (go value) (to value)) → Alike public masks mask (Looks seen go) (Looks seen to)
   Pass : {masks : List ℕ} {mask : ℕ} {turn other : Turn} (point : Point) (place : Place) (making : Making)
-      (sources : Sources) → shown_at point.slot ≡ Nothing → Alike masks mask turn other →
-      Alike masks mask (Passes point place making sources turn) (Passes point place making sources other)
+      (sources : Sources) → shown_at point.slot ≡ Nothing → Alike public masks mask turn other →
+      Alike public masks mask (Passes point place making sources turn) (Passes point place making sources other)
   Decide : {masks : List ℕ} {mask : ℕ} {go to : ℕ → Turn} (point : Point) (making : Making) (sources : Sources) →
-      shown_at point.slot ≡ Nothing → ((value : ℕ) → Alike masks mask (go value) (to value)) →
-      Alike masks mask (Decides point making sources go) (Decides point making sources to)
+      shown_at point.slot ≡ Nothing → ((value : ℕ) → Alike public masks mask (go value) (to value)) →
+      Alike public masks mask (Decides point making sources go) (Decides point making sources to)
   Show : {masks : List ℕ} {mask : ℕ} {go to : ℕ → Turn} (point : Point) (making : Making) (sources : Sources) →
       shown_at point.slot ≡ WrittenByte → ((free real copy : ℕ) → Agree free real copy →
-      Alike (masks ++ free ∷ []) mask (go real) (to copy)) →
-      Alike masks mask (Decides point making sources go) (Decides point making sources to)
+      Alike public (masks ++ free ∷ []) mask (go real) (to copy)) →
+      Alike public masks mask (Decides point making sources go) (Decides point making sources to)
   Leave : {masks : List ℕ} {mask : ℕ} {go to : ℕ → Turn} (point : Point) (making : Making) (sources : Sources) →
       shown_at point.slot ≡ ExitStatus → ((free real copy : ℕ) → Agree free real copy →
-      Alike masks free (go real) (to copy)) →
-      Alike masks mask (Decides point making sources go) (Decides point making sources to)
+      Alike public masks free (go real) (to copy)) →
+      Alike public masks mask (Decides point making sources go) (Decides point making sources to)
   Move : {masks : List ℕ} {mask : ℕ} {turn other : Turn} (place : Place) (shape : Shape) (source : Source) →
-      Alike masks mask turn other → Alike masks mask (Moves place shape source turn) (Moves place shape source other)
+      Alike public masks mask turn other → Alike public masks mask (Moves place shape source turn) (Moves place shape source other)
+  Take : {masks : List ℕ} {mask : ℕ} {turn other : Turn} (address real seen : ℕ) → Agree (public_mask public) real seen →
+      real ≤ 255 → seen ≤ 255 → Alike public masks mask turn other →
+      Alike public masks mask (Moves (Byte address) Copied (Constant real) turn)
+      (Moves (Byte address) Copied (Constant seen) other)
   End : {masks : List ℕ} {mask : ℕ} (control : Control) (output written : List ℕ) (mode stop : Stepped) →
       AgreeEach masks output written → AgreeMode mask mode stop →
-      Alike masks mask (Ends (with_output control output mode)) (Ends (with_output control written stop))
+      Alike public masks mask (Ends (with_output control output mode)) (Ends (with_output control written stop))
 
 -- ---- the turn of an instruction
 
-module _ (mask : ℕ) where
+module _ (public : PublicInput) (mask : ℕ) where
   -- two turns that differ in the output so far alone
   abbrev AlikeBeside : List ℕ → List ℕ → List ℕ → (Control → Turn) → Control → Type 0
   AlikeBeside masks output written turn control =
-      Alike masks mask (turn (with_output control output Ran)) (turn (with_output control written Ran))
+      Alike public masks mask (turn (with_output control output Ran)) (turn (with_output control written Ran))
 
   module _ (masks output written : List ℕ) (agree : AgreeEach masks output written) where
     abbrev Beside : (Control → Turn) → Control → Type 0
@@ -115,9 +131,9 @@ module _ (mask : ℕ) where
     unfolding ended
     stopped fault control = End control output written (Stopped fault) (Stopped fault) agree refl
 
-    either : (test : Bool) (turn other to otherwise : Turn) → Alike masks mask turn to →
-        Alike masks mask other otherwise →
-        Alike masks mask (if test then turn else other) (if test then to else otherwise)
+    either : (test : Bool) (turn other to otherwise : Turn) → Alike public masks mask turn to →
+        Alike public masks mask other otherwise →
+        Alike public masks mask (if test then turn else other) (if test then to else otherwise)
     either true turn other to otherwise p q = p
     either false turn other to otherwise p q = q
 
@@ -125,11 +141,17 @@ module _ (mask : ℕ) where
     unfolding onward
     answer value control = Move _ _ _ (goes control)
 
-    public : (count to value : ℕ) (input : List ℕ) (control : Control) →
-        Beside (public_reads count to value input) control
+    public_bytes : (count to value : ℕ) (input seen : List ℕ) (control : Control) → AreSeenAs public seen input →
+        Alike public masks mask (public_reads count to value input (with_output control output Ran))
+        (public_reads count to value seen (with_output control written Ran))
     unfolding public_reads public_taken
-    public zero to value input control = answer value control
-    public (suc count) to value input control = Move _ _ _ (public count (to + 1) value input (public_taken control))
+    public_bytes zero to value input seen control are = answer value control
+    public_bytes (suc count) to value input seen control are =
+        let read = are.bytes control.public_at in
+        let shown = are.seen_bytes control.public_at in
+        Take to (slice_index input control.public_at) (slice_index seen control.public_at) (are.agree control.public_at)
+        (omega (arith, read)) (omega (arith, shown))
+        (public_bytes count (to + 1) value input seen (public_taken control) are)
 
     secret : (count to value : ℕ) (control : Control) → Beside (secret_reads count to value) control
     unfolding secret_reads secret_taken
@@ -179,26 +201,40 @@ module _ (mask : ℕ) where
       Show _ _ _ refl (λ free real copy same. written-alike count (from + 1) value control (masks ++ free ∷ [])
       (output ++ real ∷ []) (written ++ copy ∷ []) (agree_one_more free real copy agree same))
 
-  module _ (masks output written : List ℕ) (agree : AgreeEach masks output written) where
-    plan-alike : (plan : CallPlan) (setting : Setting) (control : Control) →
-        AlikeBeside masks output written (planned plan setting) control
+  -- the same turn where another public input is seen
+  module _ (masks output written : List ℕ) (agree : AgreeEach masks output written) (setting : Setting) (seen : List ℕ)
+      (are : AreSeenAs public seen setting.public_input) where
+    abbrev InBoth : (Setting → Control → Turn) → Control → Type 0
+    InBoth turn control =
+        Alike public masks mask (turn setting (with_output control output Ran))
+        (turn (seeing setting seen) (with_output control written Ran))
+
+    plan-alike : (plan : CallPlan) (control : Control) → InBoth (planned plan) control
     unfolding break_moved
-    plan-alike (Answer value) setting control = answer masks output written agree value control
-    plan-alike (PublicRead to count) setting control =
-        public masks output written agree count to count setting.public_input control
-    plan-alike (SecretRead to count) setting control = secret masks output written agree count to count control
-    plan-alike (Write from count) setting control = written-alike count from count control masks output written agree
-    plan-alike (Brk value) setting control =
-        answer masks output written agree value (break_moved value control)
-    plan-alike Exit setting control = left masks output written agree control
-    plan-alike (Stop fault) setting control = stopped masks output written agree fault control
+    plan-alike (Answer value) control = answer masks output written agree value control
+    plan-alike (PublicRead to count) control =
+        public_bytes masks output written agree count to count setting.public_input seen control are
+    plan-alike (SecretRead to count) control = secret masks output written agree count to count control
+    plan-alike (Write from count) control = written-alike count from count control masks output written agree
+    plan-alike (Brk value) control = answer masks output written agree value (break_moved value control)
+    plan-alike Exit control = left masks output written agree control
+    plan-alike (Stop fault) control = stopped masks output written agree fault control
+
+    -- the plan of a read is the same, since as many bytes are left
+    same_read : (control : Control) (first second third : ℕ) →
+        read_plan setting control first second third ≡ read_plan (seeing setting seen) control first second third
+    same_read control first second third =
+        ap (λ long. if is_public_input first then public_plan setting second (bytes_read third (long - control.public_at))
+        else (if is_secret_input first
+        then secret_plan setting second (bytes_read third (setting.secret_length - control.secret_at))
+        else Answer bad_descriptor)) are.has_length
 
     -- the plan of a write is the same where the outputs are as long
-    module _ (setting : Setting) (control : Control) where
+    module _ (control : Control) where
       abbrev Planned : CallPlan → CallPlan → Type 0
       Planned plan other =
-          Alike masks mask (planned plan setting (with_output control output Ran))
-          (planned other setting (with_output control written Ran))
+          Alike public masks mask (planned plan setting (with_output control output Ran))
+          (planned other (seeing setting seen) (with_output control written Ran))
 
       either-plan : (test : Bool) (plan other to otherwise : CallPlan) → Planned plan to → Planned other otherwise →
           Planned (if test then plan else other) (if test then to else otherwise)
@@ -226,55 +262,52 @@ module _ (mask : ℕ) where
           (checked-alike (checked_write setting.base from count (length output) setting.output_limit) from count)))
           (answer masks output written agree bad_descriptor control)
 
-    kind-alike : (kind : CallKind) (setting : Setting) (control : Control) →
-        AlikeBeside masks output written (kind_row kind setting) control
-    kind-alike Read setting control =
+    kind-alike : (kind : CallKind) (control : Control) → InBoth (kind_row kind) control
+    kind-alike Read control =
         Decide _ _ _ refl (λ first. Decide _ _ _ refl (λ second. Decide _ _ _ refl (λ third.
-        plan-alike (read_plan setting control first second third) setting control)))
-    kind-alike WriteCall setting control =
+        subst (λ plan. Planned control (read_plan setting control first second third) plan)
+        (same_read control first second third)
+        (plan-alike (read_plan setting control first second third) control))))
+    kind-alike WriteCall control =
         Decide _ _ _ refl (λ first. Decide _ _ _ refl (λ second. Decide _ _ _ refl (λ third.
-        write-alike setting control first second third)))
-    kind-alike ExitCall setting control = left masks output written agree control
-    kind-alike BrkCall setting control =
-        Decide _ _ _ refl (λ request. plan-alike (break_plan setting control request) setting control)
-    kind-alike Unknown setting control = answer masks output written agree unknown_call control
+        write-alike control first second third)))
+    kind-alike ExitCall control = left masks output written agree control
+    kind-alike BrkCall control =
+        Decide _ _ _ refl (λ request. plan-alike (break_plan setting control request) control)
+    kind-alike Unknown control = answer masks output written agree unknown_call control
 
-    row-alike : (instr : Instr) (setting : Setting) (control : Control) →
-        AlikeBeside masks output written (row instr setting) control
-    row-alike (Lui rd imm) setting control = Move _ _ _ (goes masks output written agree control)
-    row-alike (Auipc rd imm) setting control = Move _ _ _ (goes masks output written agree control)
-    row-alike (Jal rd offset) setting control =
+    row-alike : (instr : Instr) (control : Control) → InBoth (row instr) control
+    row-alike (Lui rd imm) control = Move _ _ _ (goes masks output written agree control)
+    row-alike (Auipc rd imm) control = Move _ _ _ (goes masks output written agree control)
+    row-alike (Jal rd offset) control =
         links-alike masks output written agree rd ((control.pc + word_of offset) % 2 ^ 32) control
-    row-alike (Jalr rd rs1 imm) setting control =
+    row-alike (Jalr rd rs1 imm) control =
         Pass _ _ _ _ refl (Decide _ _ _ refl (λ target.
         links-alike masks output written agree rd target control))
-    row-alike (Branch kind rs1 rs2 offset) setting control =
+    row-alike (Branch kind rs1 rs2 offset) control =
         Pass _ _ _ _ refl (Pass _ _ _ _ refl (Decide _ _ _ refl (λ taken.
         branches-alike masks output written agree taken (word_of offset) control)))
-    row-alike (Load kind rd rs1 imm) setting control =
+    row-alike (Load kind rd rs1 imm) control =
         Pass _ _ _ _ refl (Decide _ _ _ refl (λ address.
         load-alike masks output written agree kind rd address setting control))
-    row-alike (StoreInstr kind rs1 rs2 imm) setting control =
+    row-alike (StoreInstr kind rs1 rs2 imm) control =
         Pass _ _ _ _ refl (Pass _ _ _ _ refl (Decide _ _ _ refl (λ address.
         store-alike masks output written agree kind address setting control)))
-    row-alike (OpImm kind rd rs1 imm) setting control =
+    row-alike (OpImm kind rd rs1 imm) control =
         Pass _ _ _ _ refl (Pass _ _ _ _ refl (goes masks output written agree control))
-    row-alike (Op kind rd rs1 rs2) setting control =
+    row-alike (Op kind rd rs1 rs2) control =
         Pass _ _ _ _ refl (Pass _ _ _ _ refl (Pass _ _ _ _ refl (goes masks output written agree control)))
-    row-alike (Fence rd rs1 imm) setting control = goes masks output written agree control
-    row-alike Ecall setting control =
-        Decide _ _ _ refl (λ number. kind-alike (call_kind number) setting control)
-    row-alike Ebreak setting control = stopped masks output written agree (Breakpoint control.pc) control
+    row-alike (Fence rd rs1 imm) control = goes masks output written agree control
+    row-alike Ecall control = Decide _ _ _ refl (λ number. kind-alike (call_kind number) control)
+    row-alike Ebreak control = stopped masks output written agree (Breakpoint control.pc) control
 
-    fetched-alike : (found : Option Instr) (word : ℕ) (setting : Setting) (control : Control) →
-        AlikeBeside masks output written (fetched found word setting) control
-    fetched-alike None word setting control = stopped masks output written agree (Illegal control.pc word) control
-    fetched-alike (Some instr) word setting control = row-alike instr setting control
+    fetched-alike : (found : Option Instr) (word : ℕ) (control : Control) → InBoth (fetched found word) control
+    fetched-alike None word control = stopped masks output written agree (Illegal control.pc word) control
+    fetched-alike (Some instr) word control = row-alike instr control
 
     -- the turn of an instruction
-    pub running_alike : (setting : Setting) (control : Control) →
-        AlikeBeside masks output written (running setting) control
-    running_alike setting control =
+    pub running_alike : (control : Control) → InBoth running control
+    running_alike control =
         either masks output written agree (is_inside setting.base control.pc 4) _ _ _ _
-        (Look _ (λ word. fetched-alike (decoded word) word setting control))
+        (Look _ (λ word. fetched-alike (decoded word) word control))
         (stopped masks output written agree (FetchOutside control.pc) control)

@@ -4,6 +4,7 @@ use Rattle.std.proofs.Common.{arith}
 use Rattle.std.specs.Prelude.{◌==◌, ◌&&◌, nat_lt, if◌then◌else◌}
 use Rattle.flow_base.specs.declared.points.Point.{Point}
 use Rattle.flow_base.specs.Listed.{is_listed}
+use Rattle.flow_base.specs.Points.{nowhere}
 use Rattle.flow_base.specs.PointOrders.{is_same}
 use Rattle.rv32im_machine.specs.declared.language.Aim.{Aim}
 use Rattle.rv32im_machine.specs.declared.language.Aim.TheVariants.{Put, Decide, Give}
@@ -24,6 +25,9 @@ use Rattle.shadow_masks.specs.declared.labels.Label.{Label}
 use Rattle.shadow_masks.specs.Labels.{clean}
 use Rattle.shadow_masks.specs.Pages.{label_of}
 use Rattle.shadow_masks.specs.Writes.{LabelMap}
+use Rattle.masked_turns.specs.Clearing.{Cutting}
+use Rattle.every_secret.specs.Masked.{is_public_byte, label_moved}
+use Rattle.every_secret.specs.Rules.{Rules, public_mask}
 
 -- ---- masks
 
@@ -76,13 +80,27 @@ same_label mask other point at e =
     refl
     ∙ ap (λ m. (label_of m at).mask) e
 
-pub same_moved : {labels others : TurnLabels} → SameLabels labels others → (shape : Shape) (source : Source) →
+same_moved : {labels others : TurnLabels} → SameLabels labels others → (shape : Shape) (source : Source) →
     (moved_label labels shape source).mask ≡ (moved_label others shape source).mask
 same_moved {labels} {others} same shape (At place) =
     same_label (shaped shape ((label_at labels place).mask ∷ [])) (shaped shape ((label_at others place).mask ∷ []))
     (label_at labels place).point (label_at others place).point (ap (λ m. shaped shape (m ∷ [])) (same_at same place))
 same_moved same shape (Constant value) = refl
 same_moved same shape (Secret index) = refl
+
+-- the same label in both, or labels that are the same
+pick_label : (t : Bool) (label usual other : Label) → usual.mask ≡ other.mask →
+    (if t then label else usual).mask ≡ (if t then label else other).mask
+pick_label true label usual other e = refl
+pick_label false label usual other e = e
+
+pub same_label_moved : (rules : Rules) (cutting : Cutting) {labels others : TurnLabels} → SameLabels labels others →
+    (place : Place) (shape : Shape) (source : Source) →
+    (label_moved rules.public cutting.skipped labels place shape source).mask
+    ≡ (label_moved rules.public cutting.skipped others place shape source).mask
+same_label_moved rules cutting same place shape source =
+    pick_label (is_public_byte place source cutting.skipped) (label_of (public_mask rules.public) nowhere) _ _
+    (same_moved same shape source)
 
 pub same_put : {labels others : TurnLabels} → SameLabels labels others → (place : Place) (label other : Label) →
     label.mask ≡ other.mask → SameLabels (put_label place label labels) (put_label place other others)

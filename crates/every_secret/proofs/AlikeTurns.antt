@@ -18,7 +18,7 @@ use Rattle.replay_machine.specs.ReplayTurns.{kind_outside_range, replay_kind_wal
 use Rattle.replay_machine.specs.Runs.{Masks}
 use Rattle.lockstep_replay.specs.Tasks.{Task}
 use Rattle.lockstep_replay.specs.Verdicts.{counted_bits}
-use Rattle.run_labels.specs.Masks.{masks_of, moved_label, work_mask}
+use Rattle.run_labels.specs.Masks.{masks_of, work_mask}
 use Rattle.run_labels.specs.Runs.{entered_number}
 use Rattle.run_labels.specs.TurnLabels.{TurnLabels}
 use Rattle.shadow_masks.specs.Pages.{label_of}
@@ -29,7 +29,7 @@ use Rattle.masked_turns.specs.Clearing.{Cutting, aimed_mask, crossing_at, uncros
 use Rattle.masked_turns.specs.Deciding.{left_at}
 use Rattle.masked_turns.specs.Looking.{look_at}
 use Rattle.every_secret.specs.declared.whys.UnclearWhy.{UnclearWhy}
-use Rattle.every_secret.specs.Masked.{Goes, Halts, MaskedPlace, Meets, Reached, masked, unclear_by_left, unclear_by_look}
+use Rattle.every_secret.specs.Masked.{Goes, Halts, MaskedPlace, Meets, Reached, label_moved, masked, unclear_by_left, unclear_by_look}
 use Rattle.every_secret.specs.Masked.{unless_met}
 use Rattle.every_secret.specs.Rules.{Rules, answer_to}
 use Rattle.every_secret.specs.Shown.{asked_for, byte_masks_after, shown_at, status_mask_after}
@@ -38,7 +38,7 @@ use Rattle.every_secret.specs.Turns.{cutting_of, kind_turn, knowledge_at, masked
 use Rattle.every_secret.specs.Turns.{secret_or, turn_from, turn_inside}
 use Rattle.every_secret.specs.Visits.{Knowledge, differing_at, known_after, left_of_mask}
 use Rattle.every_secret.proofs.AlikeMasks.{Grows, SameLabels, SameMap, SameVisits, grows_more, grows_none, same_aimed}
-use Rattle.every_secret.proofs.AlikeMasks.{same_crossing, same_label, same_masks, same_moved, same_passed, same_put}
+use Rattle.every_secret.proofs.AlikeMasks.{same_crossing, same_label, same_masks, same_label_moved, same_passed, same_put}
 use Rattle.every_secret.proofs.AlikeMasks.{same_restored, same_saved}
 
 -- ---- two askers that ask for the same
@@ -222,8 +222,9 @@ module _ (rules : Rules) (cutting : Cutting) (start begun : ℕ) where
     )
     masked_alike (Moved place shape source value walk) known other same =
         masked_alike walk _ _ (relabelled _ _ same
-        (same_put same.labels place (moved_label known.labels shape source) (moved_label other.labels shape source)
-        (same_moved same.labels shape source)))
+        (same_put same.labels place (label_moved rules.public cutting.skipped known.labels place shape source)
+        (label_moved rules.public cutting.skipped other.labels place shape source)
+        (same_label_moved rules cutting same.labels place shape source)))
     masked_alike (Saved walk) known other same =
         masked_alike walk _ _ (relabelled _ _ same (same_saved same.labels))
     masked_alike (Restored registers walk back) known other same =

@@ -5,6 +5,7 @@ use Rattle.std.specs.Prelude.{◌==◌, if◌then◌else◌}
 use Rattle.std.specs.List.{AllByRecursion}
 use Rattle.crossing_bits.specs.Askers.{AllDifferent, Asker}
 use Rattle.acceptance_law.specs.MeasuredLaws.{AreInputs}
+use Rattle.acceptance_law.specs.Proper.{AreBytes}
 use Rattle.cut_file.specs.Cuts.{CutPicture, is_cut_picture}
 use Rattle.elf32_loader.specs.Pictures.{Picture}
 use Rattle.enclosure_regions.specs.declared.region_parts.Region.{Region}
@@ -19,7 +20,10 @@ use Rattle.rv32im_machine.specs.declared.stepping.Stepped.TheVariants.{Ran, Exit
 use Rattle.rv32im_machine.specs.State.{State}
 use Rattle.every_secret.specs.declared.path_ends.PathEnd.{PathEnd}
 use Rattle.every_secret.specs.declared.path_ends.PathEnd.TheVariants.{Exits, Stops, Unclear}
+use Rattle.every_secret.specs.declared.patterns.Pattern.{Pattern}
+use Rattle.every_secret.specs.declared.public_inputs.PublicInput.{PublicInput}
 use Rattle.every_secret.specs.AllSecrets.{Gives, IsGiven, IsSecret}
+use Rattle.every_secret.specs.AnyPublic.{AreSeenAs}
 use Rattle.every_secret.specs.Bounds.{Bounds, Found, IsBounded, nothing_found, output_count}
 use Rattle.every_secret.specs.Laws.{AllSecretsLaw, Chooses, EndsPath, IsLost, RunLaw}
 use Rattle.every_secret.specs.Listed.{IsListed, StandsFor}
@@ -28,7 +32,8 @@ use Rattle.every_secret.specs.Replays.{MaskedReplay}
 use Rattle.every_secret.specs.Rules.{AreSoundRules, Rules}
 use Rattle.every_secret.proofs.JudgedPaths.{EndsInWords, AreJudged, Shows, all_judged, listed}
 use Rattle.every_secret.proofs.PathWeights.{AllEnd, end_at, ends_from_paths, paths_from_ends, weight_of_paths}
-use Rattle.every_secret.proofs.PatternOutputs.{few_outputs}
+use Rattle.every_secret.proofs.Lists.{each_weaker}
+use Rattle.every_secret.proofs.PatternOutputs.{HasWords, few_outputs}
 use Rattle.every_secret.proofs.Trees.{fed_descends}
 use Rattle.every_secret.proofs.WalkWeights.{replay_weight}
 use Rattle.every_secret.proofs.WalkWords.{cut_masks_fit, replay_words}
@@ -73,16 +78,12 @@ unbroken_after enclosures (suc turns) place none whole =
 
 -- ---- the law
 
-module _ (run : RunLaw) (rules : Rules) (program : Picture) (public_input : List ℕ) (regions : List Region)
-    (cut : CutPicture) (limits : Limits) (found : Found) (sound : AreSoundRules rules)
-    (inputs : AreInputs program public_input regions []) (valid : is_cut_picture cut ≡ true)
+module _ (run : RunLaw) (rules : Rules) (program : Picture) (seen : List ℕ) (regions : List Region) (cut : CutPicture)
+    (limits : Limits) (found : Found) (sound : AreSoundRules rules) (valid : is_cut_picture cut ≡ true)
     (small : limits.budget < 4294967295)
-    (answer : Bounds rules (task_of program public_input regions cut) limits ≡ IsBounded found) where
-  abbrev pub task : Task
-  task = task_of program public_input regions cut
-
+    (answer : Bounds rules (task_of program seen regions cut) limits ≡ IsBounded found) where
   abbrev pub walks : Asker PathEnd
-  walks = MaskedReplay rules task limits
+  walks = MaskedReplay rules (task_of program seen regions cut) limits
 
   judges : AreJudged nothing_found found (Paths walks)
   judges = all_judged (Paths walks) nothing_found found answer
@@ -90,81 +91,107 @@ module _ (run : RunLaw) (rules : Rules) (program : Picture) (public_input : List
   shows : AllEnd (Shows found) (tree_of walks)
   shows = let all = judges in ends_from_paths (Shows found) (tree_of walks) all.shown
 
-  path_shows : (secret : List ℕ) (choice : Chooses rules task limits secret) → Shows found choice.ends
-  path_shows secret choice =
-      end_at (Shows found) (tree_of walks) choice.bits (record { ends = choice.ends; rest = [] }) shows
-      (fed_descends walks choice.bits choice.ends [] choice.uses)
-
-  chosen : (secret : List ℕ) → IsSecret task secret → (real_of task secret limits.turns).broken ≡ None →
-      Chooses rules task limits secret ⊎ IsLost task limits secret
-  chosen secret is unbroken =
-      run rules program public_input regions secret cut limits sound (record {
-        program_valid = inputs.program_valid;
-        program_bytes = inputs.program_bytes;
-        public_bytes = inputs.public_bytes;
-        regions_valid = inputs.regions_valid;
-        secret_bytes = is.bytes;
-      }) valid small is unbroken
-
-  accepted_at : (secret : List ℕ) (output : Output) → Gives task limits secret output → (e : PathEnd) →
-      EndsPath task limits secret e → Shows found e → Accept task limits secret output × IsListed found.patterns output
-  accepted_at secret output gives (Unclear why) alike shown = absurd shown
-  accepted_at secret output gives (Stops stop) alike shown = absurd (alike output gives)
-  accepted_at secret output gives (Exits pattern) alike shown =
-      let same : alike.output ≡ output = same_output (real_of task secret limits.turns).state alike.output output
-      alike.gives.exits gives.exits in (
-        subst (λ o. Accept task limits secret o) same alike.accept,
-        listed pattern output found.patterns shown (subst (λ o. StandsFor pattern o) same alike.stands),
-      )
-
-  accepted : (secret : List ℕ) (output : Output) → Gives task limits secret output →
-      Accept task limits secret output × IsListed found.patterns output
-  accepted secret output gives = elim (chosen secret gives.is_secret gives.unbroken) [
-    | inl choice ↦ accepted_at secret output gives choice.ends choice.alike (path_shows secret choice)
-    | inr lost ↦ absurd (lost.never output gives.exits)
-  ]
-
-  all_listed : (outputs : List Output) → AllByRecursion (IsGiven task limits) outputs →
-      AllByRecursion (IsListed found.patterns) outputs
-  all_listed [] given = tt
-  all_listed (output ∷ outputs) (one, given) =
-      let both = accepted one.0 output one.1 in (both.1, all_listed outputs given)
-
-  within : output_count found.patterns ≤ 2 ^ limits.budget
+  pub within : output_count found.patterns ≤ 2 ^ limits.budget
   within =
       let all = judges in
       let few = all.counted in
       let weight = weight_of_paths (tree_of walks) in
-      let room = replay_weight rules task limits small in
+      let room = replay_weight rules (task_of program seen regions cut) limits small in
       omega (arith, few, weight, room)
 
-  few : (outputs : List Output) → AllDifferent outputs → AllByRecursion (IsGiven task limits) outputs →
-      length outputs ≤ output_count found.patterns
-  few outputs different given =
+  pub words : AllByRecursion HasWords found.patterns
+  words =
       let all = judges in
-      let words = all.words tt
-      (paths_from_ends EndsInWords (tree_of walks) (replay_words rules task limits (cut_masks_fit cut.points))) in
-      few_outputs found.patterns outputs words different (all_listed outputs given)
+      all.words tt
+      (paths_from_ends EndsInWords (tree_of walks)
+      (replay_words rules (task_of program seen regions cut) limits (cut_masks_fit cut.points)))
 
-  given_at : (secret : List ℕ) → found.stopped ≡ 0 → (e : PathEnd) → EndsPath task limits secret e → Shows found e →
-      (output : Output) × Gives task limits secret output
-  given_at secret none (Unclear why) alike shown = absurd shown
-  given_at secret none (Stops stop) alike shown = absurd (omega (arith, none, shown))
-  given_at secret none (Exits pattern) alike shown = (alike.output, alike.gives)
+  -- of a public input for which the one stands that is seen
+  module _ (input : List ℕ) (public : AreSeenAs rules.public seen input) (inputs : AreInputs program input regions [])
+      where
+    abbrev pub task : Task
+    task = task_of program input regions cut
 
-  every : regions ≡ [] → found.stopped ≡ 0 → (secret : List ℕ) → IsSecret task secret →
-      (output : Output) × Gives task limits secret output
-  every empty none secret is =
-      let unbroken = unbroken_after task.enclosures limits.turns (real_start task secret) empty refl in
-      elim (chosen secret is unbroken) [
-        | inl choice ↦ given_at secret none choice.ends choice.alike (path_shows secret choice)
-        | inr lost ↦ absurd (lost.lists empty)
-      ]
+    abbrev Choice : List ℕ → Type 0
+    Choice secret = Chooses rules (task_of program seen regions cut) task limits secret
+
+    path_shows : (secret : List ℕ) (choice : Choice secret) → Shows found choice.ends
+    path_shows secret choice =
+        end_at (Shows found) (tree_of walks) choice.bits (record { ends = choice.ends; rest = [] }) shows
+        (fed_descends walks choice.bits choice.ends [] choice.uses)
+
+    chosen : (secret : List ℕ) → IsSecret task secret → (real_of task secret limits.turns).broken ≡ None →
+        Choice secret ⊎ IsLost task limits secret
+    chosen secret is unbroken =
+        run rules program seen input regions secret cut limits sound public (record {
+          program_valid = inputs.program_valid;
+          program_bytes = inputs.program_bytes;
+          public_bytes = inputs.public_bytes;
+          regions_valid = inputs.regions_valid;
+          secret_bytes = is.bytes;
+        }) valid small is unbroken
+
+    accepted_at : (secret : List ℕ) (output : Output) → Gives task limits secret output → (e : PathEnd) →
+        EndsPath task limits secret e → Shows found e → Accept task limits secret output × IsListed found.patterns output
+    accepted_at secret output gives (Unclear why) alike shown = absurd shown
+    accepted_at secret output gives (Stops stop) alike shown = absurd (alike output gives)
+    accepted_at secret output gives (Exits pattern) alike shown =
+        let same : alike.output ≡ output = same_output (real_of task secret limits.turns).state alike.output output
+        alike.gives.exits gives.exits in (
+          subst (λ o. Accept task limits secret o) same alike.accept,
+          listed pattern output found.patterns shown (subst (λ o. StandsFor pattern o) same alike.stands),
+        )
+
+    pub accepted : (secret : List ℕ) (output : Output) → Gives task limits secret output →
+        Accept task limits secret output × IsListed found.patterns output
+    accepted secret output gives = elim (chosen secret gives.is_secret gives.unbroken) [
+      | inl choice ↦ accepted_at secret output gives choice.ends choice.alike (path_shows secret choice)
+      | inr lost ↦ absurd (lost.never output gives.exits)
+    ]
+
+    given_at : (secret : List ℕ) → found.stopped ≡ 0 → (e : PathEnd) → EndsPath task limits secret e → Shows found e →
+        (output : Output) × Gives task limits secret output
+    given_at secret none (Unclear why) alike shown = absurd shown
+    given_at secret none (Stops stop) alike shown = absurd (omega (arith, none, shown))
+    given_at secret none (Exits pattern) alike shown = (alike.output, alike.gives)
+
+    pub every : regions ≡ [] → found.stopped ≡ 0 → (secret : List ℕ) → IsSecret task secret →
+        (output : Output) × Gives task limits secret output
+    every empty none secret is =
+        let unbroken = unbroken_after task.enclosures limits.turns (real_start task secret) empty refl in
+        elim (chosen secret is unbroken) [
+          | inl choice ↦ given_at secret none choice.ends choice.alike (path_shows secret choice)
+          | inr lost ↦ absurd (lost.lists empty)
+        ]
+
+-- outputs each of which is listed are few
+pub few_listed : (patterns : List Pattern) → AllByRecursion HasWords patterns → (P : Output → Type 0) →
+    ((output : Output) → P output → IsListed patterns output) → (outputs : List Output) → AllDifferent outputs →
+    AllByRecursion P outputs → length outputs ≤ output_count patterns
+few_listed patterns words P listed outputs different all =
+    few_outputs patterns outputs words different (each_weaker P (IsListed patterns) listed outputs all)
+
+-- a public input stands for itself
+same_public : (public : PublicInput) (input : List ℕ) → AreBytes input → AreSeenAs public input input
+same_public public input bytes = record {
+  seen_bytes = bytes;
+  bytes = bytes;
+  has_length = refl;
+  agree = λ index i clear. refl;
+}
 
 pub every_secret : RunLaw → AllSecretsLaw
-every_secret run rules program public_input regions cut limits found sound inputs valid small answer = record {
-  accepted = accepted run rules program public_input regions cut limits found sound inputs valid small answer;
-  few = few run rules program public_input regions cut limits found sound inputs valid small answer;
-  within = within run rules program public_input regions cut limits found sound inputs valid small answer;
-  every = every run rules program public_input regions cut limits found sound inputs valid small answer;
-}
+every_secret run rules program public_input regions cut limits found sound inputs valid small answer =
+    let public = same_public rules.public public_input inputs.public_bytes in record {
+      accepted = accepted run rules program public_input regions cut limits found sound valid small answer public_input
+          public inputs;
+      few = few_listed found.patterns
+          (words run rules program public_input regions cut limits found sound valid small answer)
+          (IsGiven (task_of program public_input regions cut) limits)
+          (λ output given.
+          (accepted run rules program public_input regions cut limits found sound valid small answer public_input public
+          inputs given.0 output given.1).1);
+      within = within run rules program public_input regions cut limits found sound valid small answer;
+      every = every run rules program public_input regions cut limits found sound valid small answer public_input public
+          inputs;
+    }

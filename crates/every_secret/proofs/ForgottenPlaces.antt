@@ -42,7 +42,7 @@ goes_on_forgotten terms search after tape count some machine_is closed_is pieces
         at_start = back.at_start;
         same_length = subst (λ (c : ClosedStates). length c.states ≡ length c.below.items) (sym closed_is)
             back.same_length;
-        table = back.table;
+        ruling = back.ruling;
         base = subst (λ m. tape.shades.base ≡ m.setting.base) (sym machine_is) back.base;
       };
       ready = subst (λ m. IsReady terms.regions m tape) (sym machine_is) can.ready;

@@ -169,10 +169,10 @@ module _ (search : Search) (last : OpenPlace) (machine : State) (tape : Tape)
       (can.secret ∙ sym secret) in
       subst (λ s. IsTrue (may_leave terms.regions s)) alike.states can.leaves
 
-  pub goes_on_back : (terms : Terms) (before : Tape) → CanGoBack terms search before → tape.table ≡ before.table →
+  pub goes_on_back : (terms : Terms) (before : Tape) → CanGoBack terms search before → tape.ruling ≡ before.ruling →
       tape.shades.base ≡ before.shades.base → tape.stream.taken ≤ length tape.stream.bits →
       CanGoOn terms (with_machine machine search) tape
-  goes_on_back terms before back table base within =
+  goes_on_back terms before back ruling base within =
       let can = of_last (CanReturn terms search.pieces search.machine) search.opens.items last is_last back.opens in
       let budget = can.crossed in
       let begins : tape.shades.base ≡ machine.setting.base =
@@ -185,7 +185,7 @@ module _ (search : Search) (last : OpenPlace) (machine : State) (tape : Tape)
           begins = back.begins;
           at_start = back.at_start;
           same_length = back.same_length;
-          table = table ∙ back.table;
+          ruling = ruling ∙ back.ruling;
           base = begins;
         };
         ready = record { base = begins; leaves = can_leave terms can; clear = clear };

@@ -21,6 +21,8 @@ pub mod SecretsChoose
 pub mod Ceilings
 pub mod ClosedBehind
 pub mod PatternOutputs
+pub mod ListsOfOutputs
+pub mod AllPairs
 pub mod PathWeights
 pub mod JudgedPaths
 pub mod FoldedPaths

@@ -23,8 +23,8 @@ use Rattle.lockstep_replay.specs.Tasks.{Task}
 use Rattle.every_secret.specs.declared.whys.UnclearWhy.TheVariants.{BaseSecret}
 use Rattle.every_secret.specs.Private.Ends.{lengthens_none}
 use Rattle.every_secret.specs.Masked.{MaskedPlace, Reached, Goes, Meets, Halts, masked}
-use Rattle.every_secret.specs.Rules.{AnswerAs, Rules}
-use Rattle.every_secret.specs.Private.Tapes.{Arrives, EndsAt, EndsMasked, HoldsPlace, HoldsReached, Lengthens, PlaysWalk, Tape}
+use Rattle.every_secret.specs.Rules.{Rules}
+use Rattle.every_secret.specs.Private.Tapes.{AreRulesOf, Arrives, EndsAt, EndsMasked, HoldsPlace, HoldsReached, Lengthens, PlaysWalk, Tape}
 use Rattle.every_secret.specs.Private.Tapes.{TellsWalk, knowledge_of}
 use Rattle.every_secret.specs.Private.Turning.{HoldsTurn, IsReady, MakesFed, MakesBy, MakesKind}
 use Rattle.every_secret.specs.Turns.{cutting_of, kind_turn, knowledge_at, masked_turn, secret_base_of, skips}
@@ -68,10 +68,10 @@ module _ (enclosures : Enclosures) (kind : Kind) (region : ℕ) (skipped : Bool)
       after
   whatever plays = plays (MaskAt before.ahead) [] (ahead_self before.ahead)
 
-  pub kind-table : (register : Option ℕ) (range : Option Outside) → By register range → after.table ≡ before.table
-  kind-table (Some register) range h = ap (λ (t : Tape). t.table) h.0
-  kind-table None (Some range) h = ap (λ (t : Tape). t.table) h.0
-  kind-table None None h = (whatever h.0).table
+  pub kind_ruling : (register : Option ℕ) (range : Option Outside) → By register range → after.ruling ≡ before.ruling
+  kind_ruling (Some register) range h = ap (λ (t : Tape). t.ruling) h.0
+  kind_ruling None (Some range) h = ap (λ (t : Tape). t.ruling) h.0
+  kind_ruling None None h = (whatever h.0).ruling
 
   pub kind-longer : (register : Option ℕ) (range : Option Outside) → By register range →
       Lengthens before.stream after.stream
@@ -159,7 +159,7 @@ module _ (rules : Rules) (task : Task) (kind : Kind) (machine : State) (past : L
   held-turn (Meets why) h none = (h, none)
   held-turn (Halts range) h none = absurd h
 
-  makes-by : (register : Option ℕ) (range : Option Outside) → AnswerAs before.table rules →
+  makes-by : (register : Option ℕ) (range : Option Outside) → AreRulesOf before.ruling rules →
       MakesBy register range task.enclosures kind (entered_number kind) (skips task.enclosures kind) clean_held machine
       before outside state after →
       HoldsPlace task.masks (placed machine past before) machine before →
@@ -191,7 +191,7 @@ module _ (rules : Rules) (task : Task) (kind : Kind) (machine : State) (past : L
 
 pub turn_makes : (rules : Rules) (task : Task) (place : MaskedPlace) (machine : State) (before : Tape)
     (outside : Option Outside) (state : State) (after : Tape) (enclosures : Enclosures) (kind : Kind) (region : ℕ)
-    (skipped : Bool) (held : Held) → AnswerAs before.table rules → task.enclosures ≡ enclosures →
+    (skipped : Bool) (held : Held) → AreRulesOf before.ruling rules → task.enclosures ≡ enclosures →
     HoldsPlace task.masks place machine before → kind ≡ kind_of enclosures.regions machine.control →
     region ≡ entered_number kind → skipped ≡ skips enclosures kind → held ≡ clean_held →
     MakesKind enclosures kind region skipped held machine before outside state after →

@@ -15,16 +15,15 @@ use Rattle.rv32im_machine.specs.Playing.{Played, Finished, Halted}
 use Rattle.rv32im_machine.specs.State.{State}
 use Rattle.replay_machine.specs.Runs.{Masks}
 use Rattle.shadow_masks.specs.Shades.{Shades}
-use Rattle.run_labels.specs.Masks.{moved_label}
 use Rattle.run_labels.specs.TurnLabels.{TurnLabels, put_label, save_labels, restore_labels}
 use Rattle.masked_turns.specs.Clearing.{Cutting}
 use Rattle.masked_turns.specs.Deciding.{left_at}
 use Rattle.masked_turns.specs.Looking.{look_at}
 use Rattle.every_secret.specs.declared.whys.UnclearWhy.{UnclearWhy}
-use Rattle.every_secret.specs.Masked.{Reached, Meets, masked, unless_met, unclear_by_left, unclear_by_look}
-use Rattle.every_secret.specs.Rules.{Rules, AnswerAs}
+use Rattle.every_secret.specs.Masked.{Meets, Reached, label_moved, masked, unclear_by_left, unclear_by_look, unless_met}
+use Rattle.every_secret.specs.Rules.{Rules}
 use Rattle.every_secret.specs.Shown.{asked_for, shown_at}
-use Rattle.every_secret.specs.Private.Tapes.{Arrives, EndsAt, EndsMasked, Lengthens, PlaysMasked, Rests, Tape, TellsWalk}
+use Rattle.every_secret.specs.Private.Tapes.{AreRulesOf, Arrives, EndsAt, EndsMasked, Lengthens, PlaysMasked, Rests, Tape, TellsWalk}
 use Rattle.every_secret.specs.Private.Tapes.{knowledge_of}
 use Rattle.every_secret.specs.Private.Visited.{IsVisited}
 use Rattle.every_secret.specs.Visits.{Knowledge, differing_at, known_after, left_of_mask}
@@ -45,7 +44,7 @@ module _ (cutting : Cutting) (region : ℕ) (known later : Knowledge) (tape : Ta
       EndsMasked cutting region later tape walk state after → EndsMasked cutting region known tape whole state after
   over walk whole state after ends h = record {
     ends = ends h.ends;
-    table = h.table;
+    ruling = h.ruling;
     longer = h.longer;
     tells = λ rules answers. resting why cutting.masks (masked rules cutting region later walk)
         (masked rules cutting region known whole) tape state after tape.unclear met (h.tells rules answers);
@@ -121,7 +120,7 @@ module _ (cutting : Cutting) (region : ℕ) (past : List Point) (old : TurnLabel
   unfolding EndsAt
   masks-looked look seen value walk (Finished state after) is h = record {
     ends = h.ends;
-    table = h.table;
+    ruling = h.ruling;
     longer = h.longer;
     tells = λ rules answers. from-clear (masked rules cutting region known (Looked seen value walk)) state after
         (looked-arrives rules seen value walk state after look is (h.tells rules answers));
@@ -167,36 +166,38 @@ module _ (cutting : Cutting) (region : ℕ) (past : List Point) (old : TurnLabel
           after (goes (Some why) is) told
 
   pub masks-passed : (passing : Passing) (go : ℕ → Walk) (value : ℕ) (new : TurnLabels) (mid : Tape)
-      (out : Played NoMemory Tape) → mid.table ≡ before.table → Lengthens before.stream mid.stream →
-      ((rules : Rules) → AnswerAs before.table rules → IsVisited rules cutting past old before passing value new mid) →
+      (out : Played NoMemory Tape) → mid.ruling ≡ before.ruling → Lengthens before.stream mid.stream →
+      ((rules : Rules) → AreRulesOf before.ruling rules → IsVisited rules cutting past old before passing value new mid) →
       PlaysMasked cutting region (knowledge_of (passing.point ∷ past) new mid) mid (go value) out →
       PlaysMasked cutting region known before (Passed passing go) out
   unfolding EndsAt
-  masks-passed passing go value new mid (Finished state after) table longer visited h = record {
+  masks-passed passing go value new mid (Finished state after) ruling longer visited h = record {
     ends = (value, h.ends);
-    table = h.table ∙ table;
+    ruling = h.ruling ∙ ruling;
     longer = lengthens_more before.stream mid.stream after.stream longer h.longer;
     tells = λ rules answers. from-clear (masked rules cutting region known (Passed passing go)) state after
         (visited-arrives rules passing go value new mid state after mid.unclear refl (visited rules answers) h.longer
-        (h.tells rules (subst (λ t. AnswerAs t rules) (sym table) answers)));
+        (h.tells rules (subst (λ t. AreRulesOf t rules) (sym ruling) answers)));
   }
-  masks-passed passing go value new mid (Halted stop) table longer visited h = tt
+  masks-passed passing go value new mid (Halted stop) ruling longer visited h = tt
 
 -- ---- what passes no slot
 
 module _ (cutting : Cutting) (region : ℕ) (past : List Point) (old : TurnLabels) (before : Tape) where
   pub masks-moved : (new : TurnLabels) (shades : Shades) (place : Place) (shape : Shape) (source : Source) (value : ℕ)
-      (walk : Walk) (out : Played NoMemory Tape) → new ≡ put_label place (moved_label old shape source) old →
+      (walk : Walk) (out : Played NoMemory Tape) →
+      ((rules : Rules) → AreRulesOf before.ruling rules →
+      new ≡ put_label place (label_moved rules.public cutting.skipped old place shape source) old) →
       PlaysMasked cutting region (knowledge_of past new before) (record before { shades = shades }) walk out →
       PlaysMasked cutting region (knowledge_of past old before) before (Moved place shape source value walk) out
   unfolding EndsAt masked
   masks-moved new shades place shape source value walk (Finished state after) e h = record {
     ends = h.ends;
-    table = h.table;
+    ruling = h.ruling;
     longer = h.longer;
     tells = λ rules answers.
         subst (λ l. TellsWalk before.unclear cutting.masks (masked rules cutting region (knowledge_of past l before) walk)
-        before state after) e (stays before.unclear rules (h.tells rules answers));
+        before state after) (e rules answers) (stays before.unclear rules (h.tells rules answers));
   }
     where
       stays : (u : Option UnclearWhy) (rules : Rules) →
@@ -214,7 +215,7 @@ module _ (cutting : Cutting) (region : ℕ) (past : List Point) (old : TurnLabel
   unfolding EndsAt masked
   masks-saved new shades walk (Finished state after) e h = record {
     ends = h.ends;
-    table = h.table;
+    ruling = h.ruling;
     longer = h.longer;
     tells = λ rules answers.
         subst (λ l. TellsWalk before.unclear cutting.masks (masked rules cutting region (knowledge_of past l before) walk)
@@ -236,7 +237,7 @@ module _ (cutting : Cutting) (region : ℕ) (past : List Point) (old : TurnLabel
   unfolding EndsAt masked
   masks-restored new shades registers walk back (Finished state after) e h = record {
     ends = h.ends;
-    table = h.table;
+    ruling = h.ruling;
     longer = h.longer;
     tells = λ rules answers.
         subst (λ l. TellsWalk before.unclear cutting.masks (masked rules cutting region (knowledge_of past l before) back)

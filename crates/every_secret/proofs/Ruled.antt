@@ -26,4 +26,4 @@ work_ruled table rules as' (Shaped shape) masks list are answer holds = shaped_s
 work_ruled table rules as' (Computed operation first second) masks list are answer holds =
     ap (λ a. answered_mask operation a)
     (as' operation (operands_of first second (masks_in_order masks)) answer holds
-    ∙ ap₂ (λ m n. rules operation (record { v1 = first; m1 = m; v2 = second; m2 = n })) are.first are.second)
+    ∙ ap₂ (λ m n. rules.computed operation (record { v1 = first; m1 = m; v2 = second; m2 = n })) are.first are.second)

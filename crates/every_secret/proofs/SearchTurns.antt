@@ -547,10 +547,10 @@ module _ (basis : Basis) (small : basis.limits.budget < 4294967295) (search : Se
 -- ---- whatever the rules are
 
 pub goes_back : (terms : Terms) (search : Search) (machine : State) (before after : Tape) →
-    machine.setting ≡ search.machine.setting → machine.secret ≡ search.machine.secret → after.table ≡ before.table →
+    machine.setting ≡ search.machine.setting → machine.secret ≡ search.machine.secret → after.ruling ≡ before.ruling →
     after.shades.base ≡ machine.setting.base → CanGoBack terms search before →
     CanGoBack terms (record search { machine = machine }) after
-goes_back terms search machine before after setting secret table base back = record {
+goes_back terms search machine before after setting secret ruling base back = record {
   opens = each_weaker (CanReturn terms search.pieces search.machine) (CanReturn terms search.pieces machine) again
       search.opens.items back.opens;
   first = back.first;
@@ -558,7 +558,7 @@ goes_back terms search machine before after setting secret table base back = rec
   begins = back.begins;
   at_start = back.at_start;
   same_length = back.same_length;
-  table = table ∙ back.table;
+  ruling = ruling ∙ back.ruling;
   base = base;
 }
   where

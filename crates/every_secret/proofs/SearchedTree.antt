@@ -12,12 +12,12 @@ use Rattle.every_secret.specs.declared.whys.UnclearWhy.{UnclearWhy}
 use Rattle.crossing_bits.specs.Streams.{Stream}
 use Rattle.every_secret.specs.Bounds.{Answer, IsVerdict, Shows}
 use Rattle.every_secret.specs.Paths.{Opens}
-use Rattle.every_secret.specs.Rules.{AnswerAs, Rules}
+use Rattle.every_secret.specs.Rules.{Rules}
 use Rattle.every_secret.specs.Private.Orders.{earlier}
 use Rattle.every_secret.specs.Private.Searching.{CanGoOn, IsDone, IsBasis, IsWalking, KeepsLimit, ShowsDone, StepsSafely, StepsTo}
 use Rattle.every_secret.specs.Private.Searching.{Terms, basis_of}
 use Rattle.every_secret.specs.Private.Spots.{Basis, tree_in}
-use Rattle.every_secret.specs.Private.Tapes.{Tape}
+use Rattle.every_secret.specs.Private.Tapes.{AreRulesOf, Tape}
 
 -- a walk is to be made with so many turns left, after so many others: by all rules as which the book answers, at least so
 -- many paths are before its string
@@ -25,7 +25,7 @@ pub record IsAtWalk (terms : Terms) (task : Task) (Holds : Type 0) (limit made l
     Type 0 where
   pub safe : CanGoOn terms search tape
   pub more : made < limit
-  pub walks : (rules : Rules) → AnswerAs terms.table rules → Holds →
+  pub walks : (rules : Rules) → AreRulesOf terms.ruling rules → Holds →
       IsWalking (basis_of rules task terms.budget terms.turns) left search tape
       × (made ≤ length (earlier (tree_in (basis_of rules task terms.budget terms.turns)) tape.stream.bits))
 
@@ -39,7 +39,7 @@ is_last made limit last = grind (arith, nat_tests)
 
 module _ (terms : Terms) (task : Task) (small : terms.budget < 4294967295)
     (enclosures : task.enclosures ≡ record { regions = terms.regions; skip = terms.skip }) where
-  pub is_basis : (rules : Rules) → AnswerAs terms.table rules →
+  pub is_basis : (rules : Rules) → AreRulesOf terms.ruling rules →
       IsBasis terms (basis_of rules task terms.budget terms.turns)
   is_basis rules answers = record { answers = answers; enclosures = enclosures; limits = refl; small = small }
 
@@ -53,7 +53,7 @@ module _ (terms : Terms) (task : Task) (small : terms.budget < 4294967295)
     limits = record { budget = terms.budget; turns = terms.turns }
 
     -- what the step tells on a basis of rules
-    steps_to : (step made_step : Step) → step ≡ made_step → Steps step → (rules : Rules) → AnswerAs terms.table rules →
+    steps_to : (step made_step : Step) → step ≡ made_step → Steps step → (rules : Rules) → AreRulesOf terms.ruling rules →
         Holds → StepsTo (basis_of rules task terms.budget terms.turns)
         (length (earlier (tree_in (basis_of rules task terms.budget terms.turns)) tape.stream.bits)) made_step next after
     steps_to step made_step is steps rules answers holds =
@@ -81,7 +81,7 @@ module _ (terms : Terms) (task : Task) (small : terms.budget < 4294967295)
     -- no path is left
     pub done_verdict : (step : Step) (bounded : Bounded) → step ≡ Done → Steps step →
         ((basis : Basis) → IsDone basis next → ShowsDone basis bounded) → (rules : Rules) →
-        AnswerAs terms.table rules → Holds → IsVerdict rules task limits limit (verdict.Bounded bounded)
+        AreRulesOf terms.ruling rules → Holds → IsVerdict rules task limits limit (verdict.Bounded bounded)
     done_verdict step bounded is steps shows rules answers holds =
         let found = shows (basis_of rules task terms.budget terms.turns)
         (steps_to step Done is steps rules answers holds) in
@@ -89,7 +89,7 @@ module _ (terms : Terms) (task : Task) (small : terms.budget < 4294967295)
 
     -- the path is unclear
     pub unclear_verdict : (step : Step) (path : Stream) (why : UnclearWhy) → step ≡ Answered why → Steps step →
-        path ≡ after.stream → (rules : Rules) → AnswerAs terms.table rules → Holds →
+        path ≡ after.stream → (rules : Rules) → AreRulesOf terms.ruling rules → Holds →
         IsVerdict rules task limits limit (verdict.Unclear path why)
     unclear_verdict step path why is steps same rules answers holds =
         subst (λ (a : Answer). Shows (verdict.Unclear path why) a)
@@ -97,7 +97,7 @@ module _ (terms : Terms) (task : Task) (small : terms.budget < 4294967295)
 
     -- there are too many
     pub many_verdict : (step : Step) (path : Stream) → step ≡ TooMany → KeepsLimit (made + 1 == limit) step → Steps step →
-        path ≡ after.stream → (rules : Rules) → AnswerAs terms.table rules → Holds →
+        path ≡ after.stream → (rules : Rules) → AreRulesOf terms.ruling rules → Holds →
         IsVerdict rules task limits limit (verdict.TooMany path limit)
     many_verdict step path is keeps steps same rules answers holds =
         let last : (made + 1 == limit) ≡ true = subst (λ s. KeepsLimit (made + 1 == limit) s) is keeps in

@@ -37,13 +37,14 @@ use Rattle.masked_turns.proofs.RunsBegin.{begins_beside}
 use Rattle.every_secret.specs.declared.path_ends.PathEnd.TheVariants.{Stops}
 use Rattle.every_secret.specs.declared.stops.PathStop.TheVariants.{Turns}
 use Rattle.every_secret.specs.AllSecrets.{IsSecret}
+use Rattle.every_secret.specs.AnyPublic.{AreSeenAs, with_public}
 use Rattle.every_secret.specs.Laws.{RunLaw}
 use Rattle.every_secret.specs.Listed.{NoneLeft}
 use Rattle.every_secret.specs.Masked.{MaskedPlace}
 use Rattle.every_secret.specs.Replays.{unmasked, walked_on}
 use Rattle.every_secret.specs.Turns.{masked_turn}
 use Rattle.every_secret.specs.Rules.{AreSoundRules, Rules}
-use Rattle.every_secret.proofs.Alike.{with_output}
+use Rattle.every_secret.proofs.Alike.{seeing, with_output}
 use Rattle.every_secret.proofs.RealTurns.{all_common, enclosed_is, enclosed_next, lists_some, running_never, standing_at}
 use Rattle.every_secret.proofs.RealTurns.{stopped_never, unbroken_as, walk_as}
 use Rattle.every_secret.proofs.WalkKeeps.{IsMet}
@@ -53,37 +54,40 @@ use Rattle.every_secret.proofs.WalkStands.{Turned, entry_walks, leave_turn, step
 use Rattle.flow_base.specs.Listed.{is_listed}
 
 module _ (rules : Rules) (sound : AreSoundRules rules) (task : Task) (limits : Limits) (setting : Setting)
-    (secret other : List ℕ) (bytes : AreBytes secret) (others : AreBytes other)
-    (public_bytes : AreBytes setting.public_input) (small_start : setting.start_break < 2 ^ 32)
+    (seen secret other : List ℕ) (bytes : AreBytes secret) (others : AreBytes other)
+    (public : AreSeenAs rules.public seen setting.public_input) (small_start : setting.start_break < 2 ^ 32)
     (small : AreSmall task.masks) (proper : ProperTurnsLaw) (is_secret : IsSecret task secret)
     (low : limits.budget < 4294967295) (whole : (real_of task secret limits.turns).broken ≡ None)
     (listed : are_regions task.enclosures.regions ≡ true) (nowhere : is_listed task.enclosures.skip 0 ≡ false) where
   abbrev regions : List Region
   regions = task.enclosures.regions
 
+  abbrev walk_task : Task
+  walk_task = with_public task seen
+
   abbrev Done : Type 0
   Done =
-      Settled rules sound task limits setting secret other bytes others public_bytes small_start small proper is_secret low
+      Settled rules sound task limits setting seen secret other bytes others public small_start small proper is_secret low
       whole
 
   abbrev IsOutside : ℕ → Type 0
   IsOutside turns =
-      Outside rules sound task limits setting secret other bytes others public_bytes small_start small proper is_secret low
+      Outside rules sound task limits setting seen secret other bytes others public small_start small proper is_secret low
       whole turns
 
   abbrev IsInside : ℕ → Type 0
   IsInside turns =
-      Inside rules sound task limits setting secret other bytes others public_bytes small_start small proper is_secret low
+      Inside rules sound task limits setting seen secret other bytes others public small_start small proper is_secret low
       whole turns
 
   abbrev pub ModeAt : ℕ → Type 0
   ModeAt turns =
-      Mode rules sound task limits setting secret other bytes others public_bytes small_start small proper is_secret low
+      Mode rules sound task limits setting seen secret other bytes others public small_start small proper is_secret low
       whole turns
 
   abbrev WalkedAs : Control → MaskedPlace → Walk → Store → List Point → Type 0
   WalkedAs by place walk copy past =
-      Turned rules sound task setting secret other bytes others public_bytes small_start small proper by place walk copy
+      Turned rules sound task setting seen secret other bytes others public small_start small proper by place walk copy
       past
 
   module _ (turns : ℕ) (before : turns < limits.turns) where
@@ -95,7 +99,7 @@ module _ (rules : Rules) (sound : AreSoundRules rules) (task : Task) (limits : L
 
       abbrev place : MaskedPlace
       place =
-          walking_at setting other (with_output run.control run.written Ran) run.copy run.past run.labels run.crossed
+          walking_at (seeing setting seen) other (with_output run.control run.written Ran) run.copy run.past run.labels run.crossed
           run.masks run.mask
 
       abbrev walk : Kind → Walk
@@ -107,18 +111,18 @@ module _ (rules : Rules) (sound : AreSoundRules rules) (task : Task) (limits : L
           unbroken_as task setting secret here run.real run.past turns run.at kind e limits.turns before whole
 
       common : (kind : Kind) → kind_of regions here ≡ kind → is_enclosed_kind task.enclosures kind ≡ false →
-          WalkedAs here place (walk kind) run.copy run.past → ModeAt (suc turns)
+          WalkedAs here place (walk kind) run.twin run.past → ModeAt (suc turns)
       common kind e exposed =
-          after_common rules sound task limits setting secret other bytes others public_bytes small_start small proper
-          is_secret low whole turns before here run.real run.past here run.copy place run.at kind e exposed run.along
+          after_common rules sound task limits setting seen secret other bytes others public small_start small proper
+          is_secret low whole turns before here run.real run.past here run.twin place run.at kind e exposed run.along
 
       goes_in : (region : Region) → kind_of regions here ≡ Enters region → is_listed task.enclosures.skip region.id ≡ true →
-          IsMet (masked_turn rules task place)
+          IsMet (masked_turn rules walk_task place)
           ⊎ Skipping task.enclosures.skip regions setting.base (real_end (walk (Enters region))).control here run.labels
-          (real_end (walk (Enters region))).store run.copy → ModeAt (suc turns)
+          (real_end (walk (Enters region))).store run.copy run.twin → ModeAt (suc turns)
       goes_in region e skipped (inl met) =
-          inl (met_ends rules sound task limits setting secret other bytes others public_bytes small_start small proper
-          is_secret low whole turns before here run.copy run.past place run.along met)
+          inl (met_ends rules sound task limits setting seen secret other bytes others public small_start small proper
+          is_secret low whole turns before here run.twin run.past place run.along met)
       goes_in region e skipped (inr within) =
           inr (inr (record {
             control = run.control;
@@ -127,6 +131,7 @@ module _ (rules : Rules) (sound : AreSoundRules rules) (task : Task) (limits : L
             now = (real_end (walk (Enters region))).control;
             real = (real_end (walk (Enters region))).store;
             copy = run.copy;
+            twin = run.twin;
             past = run.past;
             before = run.labels;
             crossed = run.crossed;
@@ -136,8 +141,8 @@ module _ (rules : Rules) (sound : AreSoundRules rules) (task : Task) (limits : L
                 whole skipped;
             agree = run.agree;
             within = within;
-            along = along_stays rules sound task limits setting secret other bytes others public_bytes small_start small
-                proper is_secret low whole turns here run.copy run.past place
+            along = along_stays rules sound task limits setting seen secret other bytes others public small_start small
+                proper is_secret low whole turns here run.twin run.past place
                 (enclosed_is task setting secret here run.real run.past turns run.at (Enters region) e ∙ skipped)
                 run.along;
           }))
@@ -148,40 +153,40 @@ module _ (rules : Rules) (sound : AreSoundRules rules) (task : Task) (limits : L
           let found = numbered regions (λ another. another.enter == here.pc) region listed
           (entered_found here.mode regions here region e) in
           common (Enters region) e unskipped
-          (entry_walks rules sound task setting secret other bytes others public_bytes small_start small proper run.control
-          run.output run.written run.labels run.real run.copy run.past run.crossed run.masks run.mask region run.agree e
-          unskipped found (unbroken (Enters region) e) run.stands)
+          (entry_walks rules sound task setting seen secret other bytes others public small_start small proper run.control
+          run.output run.written run.labels run.real run.copy run.twin run.past run.crossed run.masks run.mask region run.agree e
+          unskipped found (unbroken (Enters region) e) run.stands run.also)
       enters region e true skipped =
           let found = numbered regions (λ another. another.enter == here.pc) region listed
           (entered_found here.mode regions here region e) in
           let out = enters_outside here.mode regions here region e in
           goes_in region e skipped
-          (skip_begins rules sound task setting secret other bytes others public_bytes small_start small proper
-          run.control run.output run.written run.labels run.copy run.past run.crossed run.masks run.mask run.real region e
-          skipped found (run.stands.nowhere out.1) (unbroken (Enters region) e) run.stands)
+          (skip_begins rules sound task setting seen secret other bytes others public small_start small proper
+          run.control run.output run.written run.labels run.copy run.twin run.past run.crossed run.masks run.mask run.real region e
+          skipped found (run.stands.nowhere out.1) (unbroken (Enters region) e) run.stands run.also)
 
       outside_turn : (kind : Kind) → kind_of regions here ≡ kind → ModeAt (suc turns)
       outside_turn (Enters region) e = enters region e (is_listed task.enclosures.skip region.id) refl
       outside_turn (Leaves region) e =
           let found = leaves_inside here.mode regions here region e in
           common (Leaves region) e refl
-          (leave_turn rules sound task setting secret other bytes others public_bytes small_start small proper run.control
-          run.output run.written run.labels run.real run.copy run.past run.crossed run.masks run.mask region run.agree e
-          found (numbered_rules regions here.region region listed found) nowhere (unbroken (Leaves region) e) run.stands)
+          (leave_turn rules sound task setting seen secret other bytes others public small_start small proper run.control
+          run.output run.written run.labels run.real run.copy run.twin run.past run.crossed run.masks run.mask region run.agree e
+          found (numbered_rules regions here.region region listed found) nowhere (unbroken (Leaves region) e) run.stands run.also)
       outside_turn (Steps None) e =
           common (Steps None) e refl
-          (step_walks rules sound task setting secret other bytes others public_bytes small_start small proper run.control
-          run.output run.written run.labels run.real run.copy run.past run.crossed run.masks run.mask None run.agree e
-          run.stands)
+          (step_walks rules sound task setting seen secret other bytes others public small_start small proper run.control
+          run.output run.written run.labels run.real run.copy run.twin run.past run.crossed run.masks run.mask None run.agree e
+          run.stands run.also)
       outside_turn (Steps (Some region)) e =
           let found = steps_inside here.mode regions here region e in
           let unskipped : is_listed task.enclosures.skip region.id ≡ false =
           subst (λ r. is_listed task.enclosures.skip r ≡ false) (sym (numbered_id regions here.region region found))
           run.stands.runs in
           common (Steps (Some region)) e unskipped
-          (step_walks rules sound task setting secret other bytes others public_bytes small_start small proper run.control
-          run.output run.written run.labels run.real run.copy run.past run.crossed run.masks run.mask (Some region)
-          run.agree e run.stands)
+          (step_walks rules sound task setting seen secret other bytes others public small_start small proper run.control
+          run.output run.written run.labels run.real run.copy run.twin run.past run.crossed run.masks run.mask (Some region)
+          run.agree e run.stands run.also)
 
     -- ---- from inside a skipped region
 
@@ -194,7 +199,7 @@ module _ (rules : Rules) (sound : AreSoundRules rules) (task : Task) (limits : L
 
       abbrev stands_at : MaskedPlace
       stands_at =
-          walking_at setting other (with_output run.control run.written Ran) run.copy run.past run.before run.crossed
+          walking_at (seeing setting seen) other (with_output run.control run.written Ran) run.copy run.past run.before run.crossed
           run.masks run.mask
 
       abbrev inner : Kind → Walk
@@ -207,11 +212,11 @@ module _ (rules : Rules) (sound : AreSoundRules rules) (task : Task) (limits : L
 
       leaves : run.now.pc ≡ region.leave → kind_of regions run.now ≡ Leaves region → ModeAt (suc turns)
       leaves pc e =
-          after_common rules sound task limits setting secret other bytes others public_bytes small_start small proper
-          is_secret low whole turns before run.now run.real run.past by run.copy stands_at run.at (Leaves region) e refl
+          after_common rules sound task limits setting seen secret other bytes others public small_start small proper
+          is_secret low whole turns before run.now run.real run.past by run.twin stands_at run.at (Leaves region) e refl
           run.along
-          (skip_ends rules sound task setting secret other bytes others public_bytes small_start small proper run.control
-          run.output run.written run.before run.copy run.past run.crossed run.masks run.mask run.now run.real run.within
+          (skip_ends rules sound task setting seen secret other bytes others public small_start small proper run.control
+          run.output run.written run.before run.copy run.twin run.past run.crossed run.masks run.mask run.now run.real run.within
           run.agree pc (numbered_rules regions run.now.region region listed run.within.numbered) nowhere
           (whole_as (Leaves region) e))
 
@@ -241,6 +246,7 @@ module _ (rules : Rules) (sound : AreSoundRules rules) (task : Task) (limits : L
               now = end.control;
               real = end.store;
               copy = run.copy;
+              twin = run.twin;
               past = run.past;
               before = run.before;
               crossed = run.crossed;
@@ -249,10 +255,10 @@ module _ (rules : Rules) (sound : AreSoundRules rules) (task : Task) (limits : L
               at = next_at;
               agree = run.agree;
               within =
-                  skip_goes rules sound task setting secret other bytes others public_bytes small_start small proper run.now
-                  by run.before run.real run.copy run.within (whole_as (Steps (Some region)) e) ran;
-              along = along_stays rules sound task limits setting secret other bytes others public_bytes small_start small
-                  proper is_secret low whole turns by run.copy run.past stands_at
+                  skip_goes rules sound task setting seen secret other bytes others public small_start small proper run.now
+                  by run.before run.real run.copy run.twin run.within (whole_as (Steps (Some region)) e) ran;
+              along = along_stays rules sound task limits setting seen secret other bytes others public small_start small
+                  proper is_secret low whole turns by run.twin run.past stands_at
                   (enclosed_is task setting secret run.now run.real run.past turns run.at (Steps (Some region)) e
                   ∙ run.within.skipped) run.along;
             }))
@@ -284,7 +290,7 @@ module _ (rules : Rules) (sound : AreSoundRules rules) (task : Task) (limits : L
   -- ---- all turns
 
   abbrev EndsAt : MaskedPlace → ℕ → Type 0
-  EndsAt place left = feed (walked_on rules task limits left place) [] ≡ Fed' (Stops (Turns limits.turns)) []
+  EndsAt place left = feed (walked_on rules walk_task limits left place) [] ≡ Fed' (Stops (Turns limits.turns)) []
 
   no_turns : (at : MaskedPlace) → EndsAt at zero
   unfolding walked_on
@@ -293,13 +299,13 @@ module _ (rules : Rules) (sound : AreSoundRules rules) (task : Task) (limits : L
   -- after the last turn: it still runs, and the walk has no turn left, or the run has lost turns to a region
   still_outside : (run : IsOutside limits.turns) → (left : ℕ) → run.along.left ≡ left → Done
   still_outside run zero none =
-      let place = walking_at setting other (with_output run.control run.written Ran) run.copy run.past run.labels
+      let place = walking_at (seeing setting seen) other (with_output run.control run.written Ran) run.copy run.past run.labels
       run.crossed run.masks run.mask in
       inl (record {
         bits = run.along.bits ++ [];
         ends = Stops (Turns limits.turns);
         uses = run.along.fed []
-            ∙ ap (λ n. feed (walked_on rules task limits n place) []) none
+            ∙ ap (λ n. feed (walked_on rules walk_task limits n place) []) none
             ∙ no_turns place;
         alike = λ output gives.
             running_never task secret limits.turns (ap (λ (p : Place). p.state.control.mode) run.at) output gives.exits;
@@ -339,7 +345,7 @@ module _ (rules : Rules) (sound : AreSoundRules rules) (task : Task) (limits : L
 
 pub run_law : RunLaw
 unfolding Real Replay common_turns cross_after
-run_law rules program public_input regions secret cut limits sound inputs valid low is_secret whole =
+run_law rules program seen public_input regions secret cut limits sound public inputs valid low is_secret whole =
     let task = task_of program public_input regions cut in
     let state = (real_start task secret).state in
     let setting = state.setting in
@@ -349,8 +355,13 @@ run_law rules program public_input regions secret cut limits sound inputs valid 
     let long : length secret ≡ length other = is_secret.has_length ∙ sym (length_zeros cut.secret_len) in
     let starts : replay_fresh (state_of setting other state.control state.store) ≡ replay_start task =
     ap (λ n. replay_fresh (state_of (record setting { secret_length = n }) other state.control state.store)) long in
+    let seen_starts : replay_fresh (state_of (seeing setting seen) other state.control state.store)
+    ≡ replay_start (with_public task seen) =
+    ap (λ n. replay_fresh (state_of (record setting { public_input = seen; secret_length = n }) other state.control
+    state.store)) long in
     let nowhere = valid_skip cut valid in
-    settled rules sound task limits setting secret other inputs.secret_bytes (zero_bytes cut.secret_len) is.public_input
+    let begins = begins_beside cut.skip regions state is refl nowhere in
+    settled rules sound task limits setting seen secret other inputs.secret_bytes (zero_bytes cut.secret_len) public
     is.start_break (small_masks cut.points) proper_law is_secret low whole inputs.regions_valid nowhere
     (inr (inl (record {
       control = state.control;
@@ -358,6 +369,7 @@ run_law rules program public_input regions secret cut limits sound inputs valid 
       written = [];
       real = state.store;
       copy = state.store;
+      twin = state.store;
       past = [];
       labels = default_map;
       crossed = 0;
@@ -365,11 +377,13 @@ run_law rules program public_input regions secret cut limits sound inputs valid 
       mask = 0;
       at = refl;
       agree = NoneLeft;
-      stands = begins_beside cut.skip regions state is refl nowhere;
+      stands = begins;
+      also = begins;
       along = record {
         bits = [];
         left = limits.turns;
-        fed = λ more. ap (λ p. feed (walked_on rules task limits limits.turns (unmasked p)) more) (sym starts);
+        fed = λ more. ap (λ p. feed (walked_on rules (with_public task seen) limits limits.turns (unmasked p)) more)
+            (sym seen_starts);
         turns_are = omega arith;
         comes = ap (λ p. Fed' p []) (sym starts);
         crossed = refl;

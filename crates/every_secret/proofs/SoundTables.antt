@@ -18,6 +18,7 @@ use Rattle.transfer_rules.proofs.Instructions.{target_by_sum}
 use Rattle.transfer_rules.proofs.Masks.{sound_by_table_1}
 use Rattle.transfer_rules.proofs.NarrowMasks.{sound_by_table_2}
 use Rattle.transfer_rules.proofs.Shifts.{left_fits, right_fits, signed_fits}
+use Rattle.every_secret.specs.declared.public_inputs.PublicInput.{PublicInput}
 use Rattle.every_secret.specs.Rules.{AreSoundRules, TablesAreSound, rules_of}
 
 -- ---- the masks are words
@@ -98,17 +99,18 @@ target_sound : (o : Operands) (answer : ℕ) → AreWords o → IsSound Add o an
 target_sound o answer words sound other fits agree =
     target_by_sum o answer sound other o.v2 fits words.2 agree (λ i none. refl)
 
-rules_sound : (table : Table) → ((class : Class) (o : Operands) → AreWords o → table class o < 2 ^ 32) →
-    ((class : Class) (o : Operands) → AreWords o → IsSound class o (table class o)) → AreSoundRules (rules_of table)
-rules_sound table word sound (Result kind) o words =
+rules_sound : (table : Table) (public : PublicInput) → ((class : Class) (o : Operands) → AreWords o → table class o < 2 ^ 32) →
+    ((class : Class) (o : Operands) → AreWords o → IsSound class o (table class o)) →
+    AreSoundRules (rules_of table public)
+rules_sound table public word sound (Result kind) o words =
     (word (operation_class kind) o words, sound (operation_class kind) o words)
-rules_sound table word sound (Decision kind) o words =
+rules_sound table public word sound (Decision kind) o words =
     (word (branch_class kind) o words, sound (branch_class kind) o words)
-rules_sound table word sound Target o words =
+rules_sound table public word sound Target o words =
     (let small = word Add o words in omega (arith, small), target_sound o (table Add o) words (sound Add o words))
 
 pub tables_sound : TablesAreSound
-tables_sound = (
-  rules_sound mask_by_table_1 table_1_word (λ class o words. sound_by_table_1 class o _ words refl),
-  rules_sound mask_by_table_2 table_2_word (λ class o words. sound_by_table_2 class o _ words refl),
+tables_sound public = (
+  rules_sound mask_by_table_1 public table_1_word (λ class o words. sound_by_table_1 class o _ words refl),
+  rules_sound mask_by_table_2 public table_2_word (λ class o words. sound_by_table_2 class o _ words refl),
 )

@@ -65,7 +65,7 @@ nothing_before tree bits empty =
 
 module _ (terms : Terms) (start : State) (first second : Search) (tape : Tape) (base turns : ℕ) (points : List CutPoint)
     (is_first : IsFirst start first) (opens : OpensStart first second tape turns)
-    (is_tape : IsFirstTape terms.table base points tape) where
+    (is_tape : IsFirstTape terms.ruling base points tape) where
   abbrev opened : OpenPlace
   opened = record { kept = opens.kept; depth = 0; left = turns; crossed = 0; sum = no_paths }
 
@@ -100,7 +100,7 @@ module _ (terms : Terms) (start : State) (first second : Search) (tape : Tape) (
           begins = opens.opens;
           at_start = refl;
           same_length = none ∙ sym none_below;
-          table = is_tape.table_is;
+          ruling = is_tape.ruling_is;
           base = base_is;
         };
         ready = record {

@@ -37,6 +37,7 @@ use Rattle.every_secret.specs.declared.shown.Shown.TheVariants.{Nothing}
 use Rattle.every_secret.specs.Masked.{Reached, masked}
 use Rattle.every_secret.specs.Rules.{Rules}
 use Rattle.every_secret.specs.Shown.{asked_for, byte_masks_after, shown_at, status_mask_after}
+use Rattle.every_secret.proofs.Alike.{seeing}
 use Rattle.every_secret.proofs.Merging.{merged}
 use Rattle.every_secret.proofs.WalkKeeps.{AlikeControl, Outcome, count_more, kept_of, knows, same_part, step}
 
@@ -45,8 +46,11 @@ nothing_shown : (o : Output) → shown_at (output_slot o) ≡ Nothing
 nothing_shown (OfRegister register) = refl
 nothing_shown (OfByte range address) = refl
 
-module _ (rules : Rules) (cutting : Cutting) (small : AreSmall cutting.masks) (setting : Setting) (secret other : List ℕ)
-    (number : ℕ) (region : Region) where
+module _ (rules : Rules) (cutting : Cutting) (small : AreSmall cutting.masks) (setting : Setting)
+    (seen secret other : List ℕ) (number : ℕ) (region : Region) where
+  abbrev sees : Setting
+  sees = seeing setting seen
+
   module _ (o : Output) (os : List Output) (labels : TurnLabels) (real : Store) (held : Held) (copy : Store)
       (taken : Held) (past : List Point) (is : IsOutput setting.base o)
       (waiting : Waiting everything region.id setting.base (o ∷ os) labels real held copy taken)
@@ -151,23 +155,27 @@ module _ (rules : Rules) (cutting : Cutting) (small : AreSmall cutting.masks) (s
 
   -- the outputs pass
   pub given_walks : (os : List Output) (control shown : Control) (labels : TurnLabels) (crossed : ℕ) (masks : List ℕ)
-      (mask : ℕ) (real : Store) (held : Held) (copy : Store) (taken : Held) (past : List Point) →
-      AreOutputs setting.base os → Waiting everything region.id setting.base os labels real held copy taken →
+      (mask : ℕ) (real : Store) (held : Held) (copy : Store) (taken : Held) (twin : Store) (lent : Held)
+      (past : List Point) → AreOutputs setting.base os →
+      Waiting everything region.id setting.base os labels real held copy taken →
       (cutting.skipped ≡ false → Beside everything setting.base labels real held copy taken) →
+      Waiting everything region.id setting.base os labels real held twin lent →
+      (cutting.skipped ≡ false → Beside everything setting.base labels real held twin lent) →
       AlikeControl masks mask control shown →
-      Outcome setting other
+      Outcome setting sees other
       (masked rules cutting number (knows past labels crossed masks mask)
-      (walked setting other (given region os (Ends shown)) copy taken)) crossed
+      (walked sees other (given region os (Ends shown)) copy taken)) crossed
       (real_end (walked setting secret (given region os (Ends control)) real held))
       (passed past (walked setting secret (given region os (Ends control)) real held))
       (crossing cutting.masks past (walked setting secret (given region os (Ends control)) real held))
-      (replayed cutting.masks past (walked setting other (given region os (Ends control)) copy taken)) (kept_of copy labels.map)
+      (replayed cutting.masks past (walked setting other (given region os (Ends control)) twin lent))
+      (kept_of copy labels.map twin)
   unfolding given walked masked replayed crossing passed real_end
-  given_walks [] control shown labels crossed masks mask real held copy taken past are waiting own alike =
+  given_walks [] control shown labels crossed masks mask real held copy taken twin lent past are waiting own also both alike =
       inr (record {
         chosen = [];
         place = record {
-          state = record { setting = setting; secret = other; control = shown; store = copy };
+          state = record { setting = sees; secret = other; control = shown; store = copy };
           past = past;
           labels = labels.map;
           crossed = crossed;
@@ -175,6 +183,7 @@ module _ (rules : Rules) (cutting : Cutting) (small : AreSmall cutting.masks) (s
           status_mask = mask;
         };
         goes = λ more. refl;
+        twin = twin;
         uses = refl;
         past_after = refl;
         count = ap (λ n. counted_bits n) (omega arith);
@@ -183,48 +192,59 @@ module _ (rules : Rules) (cutting : Cutting) (small : AreSmall cutting.masks) (s
         control = alike;
         beside = fresh_beside everything setting.base labels real held copy taken
             (beside_of everything region.id setting.base labels real held copy taken waiting);
+        also = fresh_beside everything setting.base labels real held twin lent
+            (beside_of everything region.id setting.base labels real held twin lent also);
         kept = refl;
       })
-  given_walks (o ∷ os) control shown labels crossed masks mask real held copy taken past are waiting own alike =
+  given_walks (o ∷ os) control shown labels crossed masks mask real held copy taken twin lent past are waiting own also
+      both alike =
       let point = output_at o os labels real held copy taken past are.0 waiting own in
       let r = real_output o os labels real held copy taken past are.0 waiting own in
       let y = copy_output o os labels real held copy taken past are.0 waiting own in
+      let z = copy_output o os labels real held twin lent past are.0 also both in
       let cut = cut_output o os labels real held copy taken past are.0 waiting own in
       let open_bits = open_output o os labels real held copy taken past are.0 waiting own in
       let p = passed_output o os labels real held copy taken past are.0 waiting own in
+      let q = passed_output o os labels real held twin lent past are.0 also both in
       let left = output_left o os labels real held copy taken past are.0 waiting own in
       let place = output_place o in
       let after = put_label place (label_of left nowhere) labels in
       let count = counted_bits (crossed + bit_count cut) in
+      let kept = kept_of copy labels.map twin in
       let goes : ℕ → Asker Reached = λ value.
       masked rules cutting number (knows (point ∷ past) after count masks mask)
-      (walked setting other (given region os (Ends shown)) (put setting.base place value copy) (hold place value taken)) in
+      (walked sees other (given region os (Ends shown)) (put setting.base place value copy) (hold place value taken)) in
       let copied : ℕ → Asker ReplayPlace = λ value. replayed cutting.masks (point ∷ past)
-      (walked setting other (given region os (Ends control)) (put setting.base place value copy)
-      (hold place value taken)) in
+      (walked setting other (given region os (Ends control)) (put setting.base place value twin)
+      (hold place value lent)) in
       let next = walked setting secret (given region os (Ends control)) (put setting.base place r real)
       (hold place r held) in
       let end = real_end next in
       let points = passed (point ∷ past) next in
       let bits = crossing cutting.masks (point ∷ past) next in
-      let replay = Asks (bit_count cut) (λ string. copied (patched y cut string)) in
-      subst (λ is_shown. Outcome setting other (Asks (asked_for is_shown open_bits) (λ chosen.
+      let replay = Asks (bit_count cut) (λ string. copied (patched z cut string)) in
+      subst (λ is_shown. Outcome setting sees other (Asks (asked_for is_shown open_bits) (λ chosen.
       masked rules cutting number (knows (point ∷ past) after count (byte_masks_after is_shown open_bits masks)
       (status_mask_after is_shown open_bits mask))
-      (walked setting other (given region os (Ends shown)) (put setting.base place (patched y open_bits chosen) copy)
-      (hold place (patched y open_bits chosen) taken)))) crossed end points (bits_under r cut ++ bits) replay (kept_of copy labels.map))
+      (walked sees other (given region os (Ends shown)) (put setting.base place (patched y open_bits chosen) copy)
+      (hold place (patched y open_bits chosen) taken)))) crossed end points (bits_under r cut ++ bits) replay kept)
       (sym (nothing_shown o))
-      (step setting other (Asks (bit_count open_bits) (λ chosen. goes (patched y open_bits chosen))) (goes p) count crossed
-      end points bits replay (copied p) (kept_of (put setting.base place p copy) after.map) (kept_of copy labels.map) (bits_under r open_bits)
+      (step setting sees other (Asks (bit_count open_bits) (λ chosen. goes (patched y open_bits chosen))) (goes p) count
+      crossed end points bits replay (copied q)
+      (kept_of (put setting.base place p copy) after.map (put setting.base place q twin)) kept (bits_under r open_bits)
       (bits_under r cut)
       (λ more. feed_bits r open_bits (λ chosen. goes (patched y open_bits chosen)) more
       ∙ ap (λ value. feed (goes value) more)
       (same_output o os labels real held copy taken past are.0 waiting own))
-      (λ more. feed_bits r cut (λ string. copied (patched y cut string)) more)
+      (λ more. feed_bits r cut (λ string. copied (patched z cut string)) more)
       (λ n. count_more crossed (bit_count cut) n
       ∙ ap (λ k. counted_bits (crossed + (k + n))) (sym (length_bits_under r cut)))
-      (same_part (put_kept setting.base place p copy) (put_label_kept place (label_of left nowhere) labels))
+      (same_part (put_kept setting.base place p copy) (put_label_kept place (label_of left nowhere) labels)
+      (put_kept setting.base place q twin))
       (given_walks os control shown after count masks mask (put setting.base place r real) (hold place r held)
-      (put setting.base place p copy) (hold place p taken) (point ∷ past) are.1
+      (put setting.base place p copy) (hold place p taken) (put setting.base place q twin) (hold place q lent)
+      (point ∷ past) are.1
       (output_passed o os labels real held copy taken past are.0 waiting own)
-      (own_passed o os labels real held copy taken past are.0 waiting own) alike))
+      (own_passed o os labels real held copy taken past are.0 waiting own)
+      (output_passed o os labels real held twin lent past are.0 also both)
+      (own_passed o os labels real held twin lent past are.0 also both) alike))

@@ -38,13 +38,14 @@ use Rattle.every_secret.specs.declared.path_ends.PathEnd.TheVariants.{Exits, Sto
 use Rattle.every_secret.specs.declared.stops.PathStop.TheVariants.{Guest}
 use Rattle.every_secret.specs.declared.whys.UnclearWhy.TheVariants.{Budget}
 use Rattle.every_secret.specs.AllSecrets.{IsSecret}
+use Rattle.every_secret.specs.AnyPublic.{AreSeenAs, with_public}
 use Rattle.every_secret.specs.Laws.{Chooses, EndsPath, GivesAs, IsLost}
 use Rattle.every_secret.specs.Listed.{AgreeEach}
 use Rattle.every_secret.specs.Masked.{Goes, MaskedPlace, Meets, Reached}
 use Rattle.every_secret.specs.Replays.{MaskedReplay, ended_or, pattern_of, unless_exited, unless_over, unless_stopped, walked_on}
 use Rattle.every_secret.specs.Rules.{AreSoundRules, Rules}
 use Rattle.every_secret.specs.Turns.{masked_turn}
-use Rattle.every_secret.proofs.Alike.{AgreeMode, with_output}
+use Rattle.every_secret.proofs.Alike.{AgreeMode, seeing, with_output}
 use Rattle.every_secret.proofs.RealTurns.{common_next, crosses_is, enclosed_is, standing_at, stopped_never, walk_as}
 use Rattle.every_secret.proofs.WalkKeeps.{IsMet}
 use Rattle.every_secret.proofs.WalkSkips.{Skipping}
@@ -76,27 +77,34 @@ some_left zero some = absurd (omega (arith, some))
 some_left (suc less) some = (less, refl)
 
 module _ (rules : Rules) (sound : AreSoundRules rules) (task : Task) (limits : Limits) (setting : Setting)
-    (secret other : List ℕ) (bytes : AreBytes secret) (others : AreBytes other)
-    (public_bytes : AreBytes setting.public_input) (small_start : setting.start_break < 2 ^ 32)
+    (seen secret other : List ℕ) (bytes : AreBytes secret) (others : AreBytes other)
+    (public : AreSeenAs rules.public seen setting.public_input) (small_start : setting.start_break < 2 ^ 32)
     (small : AreSmall task.masks) (proper : ProperTurnsLaw) (is_secret : IsSecret task secret)
     (low : limits.budget < 4294967295) (whole : (real_of task secret limits.turns).broken ≡ None) where
+  -- what the walk sees, and the task that is walked
+  abbrev pub sees : Setting
+  sees = seeing setting seen
+
+  abbrev pub walk_task : Task
+  walk_task = with_public task seen
+
   -- the run needs no further look: it chooses a path, or is lost
   abbrev pub Settled : Type 0
-  Settled = Chooses rules task limits secret ⊎ IsLost task limits secret
+  Settled = Chooses rules walk_task task limits secret ⊎ IsLost task limits secret
 
   abbrev pub StandsAt : Control → LabelMap → Store → Store → List Point → Type 0
   StandsAt control labels real copy past =
-      At rules sound task setting secret other bytes others public_bytes small_start small proper control labels real copy
+      At rules sound task setting seen secret other bytes others public small_start small proper control labels real copy
       past
 
   abbrev pub Walked : Control → MaskedPlace → Walk → Store → List Point → Type 0
   Walked by place walk copy past =
-      HasWalked rules sound task setting secret other bytes others public_bytes small_start small proper by place walk copy
+      HasWalked rules sound task setting seen secret other bytes others public small_start small proper by place walk copy
       past
 
   abbrev pub WalkedOrMet : Control → MaskedPlace → Walk → Store → List Point → Type 0
   WalkedOrMet by place walk copy past =
-      Turned rules sound task setting secret other bytes others public_bytes small_start small proper by place walk copy
+      Turned rules sound task setting seen secret other bytes others public small_start small proper by place walk copy
       past
 
   abbrev pub ComesTo : ℕ → ReplayPlace → Type 0
@@ -111,7 +119,7 @@ module _ (rules : Rules) (sound : AreSoundRules rules) (task : Task) (limits : L
     pub bits : List Bool
     pub left : ℕ
     pub fed : (more : List Bool) →
-        feed (MaskedReplay rules task limits) (bits ++ more) ≡ feed (walked_on rules task limits left place) more
+        feed (MaskedReplay rules walk_task limits) (bits ++ more) ≡ feed (walked_on rules walk_task limits left place) more
     pub turns_are : left + common_of task secret turns ≡ limits.turns
     pub comes : ComesTo turns (placed setting other by copy past)
     pub crossed : place.crossed ≡ length (Cross task secret turns)
@@ -124,6 +132,7 @@ module _ (rules : Rules) (sound : AreSoundRules rules) (task : Task) (limits : L
     pub written : List ℕ
     pub real : Store
     pub copy : Store
+    pub twin : Store
     pub past : List Point
     pub labels : LabelMap
     pub crossed : ℕ
@@ -132,8 +141,9 @@ module _ (rules : Rules) (sound : AreSoundRules rules) (task : Task) (limits : L
     pub at : real_of task secret turns ≡ standing_at setting secret (with_output control output Ran) real past
     pub agree : AgreeEach masks output written
     pub stands : StandsAt (with_output control output Ran) labels real copy past
-    pub along : Along turns (with_output control output Ran) copy past
-        (walking_at setting other (with_output control written Ran) copy past labels crossed masks mask)
+    pub also : StandsAt (with_output control output Ran) labels real twin past
+    pub along : Along turns (with_output control output Ran) twin past
+        (walking_at sees other (with_output control written Ran) copy past labels crossed masks mask)
 
   -- inside one, at whose entry the walk stands
   pub record Inside (turns : ℕ) : Type 0 where
@@ -143,6 +153,7 @@ module _ (rules : Rules) (sound : AreSoundRules rules) (task : Task) (limits : L
     pub now : Control
     pub real : Store
     pub copy : Store
+    pub twin : Store
     pub past : List Point
     pub before : LabelMap
     pub crossed : ℕ
@@ -151,9 +162,9 @@ module _ (rules : Rules) (sound : AreSoundRules rules) (task : Task) (limits : L
     pub at : real_of task secret turns ≡ standing_at setting secret now real past
     pub agree : AgreeEach masks output written
     pub within : Skipping task.enclosures.skip task.enclosures.regions setting.base now (with_output control output Ran)
-        before real copy
-    pub along : Along turns (with_output control output Ran) copy past
-        (walking_at setting other (with_output control written Ran) copy past before crossed masks mask)
+        before real copy twin
+    pub along : Along turns (with_output control output Ran) twin past
+        (walking_at sees other (with_output control written Ran) copy past before crossed masks mask)
 
   abbrev pub Mode : ℕ → Type 0
   Mode turns = Settled ⊎ (Outside turns ⊎ Inside turns)
@@ -194,34 +205,34 @@ module _ (rules : Rules) (sound : AreSoundRules rules) (task : Task) (limits : L
 
     -- the walk that has so many turns left after this one
     abbrev later : MaskedPlace → Asker PathEnd
-    later next = walked_on rules task limits left_is.0 next
+    later next = walked_on rules walk_task limits left_is.0 next
 
     turned : (chosen : List Bool) (reached : Reached) (more : List Bool) →
-        feed (masked_turn rules task place) (chosen ++ more) ≡ Fed' reached more →
-        feed (MaskedReplay rules task limits) ((along.bits ++ chosen) ++ more)
+        feed (masked_turn rules walk_task place) (chosen ++ more) ≡ Fed' reached more →
+        feed (MaskedReplay rules walk_task limits) ((along.bits ++ chosen) ++ more)
         ≡ feed (ended_or limits.budget reached later) more
     unfolding walked_on
     turned chosen reached more goes =
-        ap (λ s. feed (MaskedReplay rules task limits) s) (append_assoc along.bits chosen more)
+        ap (λ s. feed (MaskedReplay rules walk_task limits) s) (append_assoc along.bits chosen more)
         ∙ along.fed (chosen ++ more)
-        ∙ ap (λ n. feed (walked_on rules task limits n place) (chosen ++ more)) left_is.1
-        ∙ feed_then (masked_turn rules task place) (λ reached. ended_or limits.budget reached later) (chosen ++ more)
+        ∙ ap (λ n. feed (walked_on rules walk_task limits n place) (chosen ++ more)) left_is.1
+        ∙ feed_then (masked_turn rules walk_task place) (λ reached. ended_or limits.budget reached later) (chosen ++ more)
         reached more goes
 
     -- a path ends with the turn
     ends_so : (chosen : List Bool) (reached : Reached) (ends : PathEnd) →
-        feed (masked_turn rules task place) (chosen ++ []) ≡ Fed' reached [] →
+        feed (masked_turn rules walk_task place) (chosen ++ []) ≡ Fed' reached [] →
         feed (ended_or limits.budget reached later) [] ≡ Fed' ends [] → EndsPath task limits secret ends → Settled
     ends_so chosen reached ends goes over alike =
         inl (record {
           bits = along.bits ++ chosen;
           ends = ends;
-          uses = ap (λ s. feed (MaskedReplay rules task limits) s) (sym (append-nil (along.bits ++ chosen)))
+          uses = ap (λ s. feed (MaskedReplay rules walk_task limits) s) (sym (append-nil (along.bits ++ chosen)))
               ∙ turned chosen reached [] goes ∙ over;
           alike = alike;
         })
 
-    pub met_ends : IsMet (masked_turn rules task place) → Settled
+    pub met_ends : IsMet (masked_turn rules walk_task place) → Settled
     met_ends met = ends_so met.chosen (Meets met.why) (Unclear met.why) (met.meets []) refl tt
 
   -- ---- a common turn
@@ -251,7 +262,7 @@ module _ (rules : Rules) (sound : AreSoundRules rules) (task : Task) (limits : L
 
     abbrev EndsHere : List Bool → Reached → PathEnd → Type 0
     EndsHere chosen reached ends =
-        feed (masked_turn rules task place) (chosen ++ []) ≡ Fed' reached [] →
+        feed (masked_turn rules walk_task place) (chosen ++ []) ≡ Fed' reached [] →
         feed (ended_or limits.budget reached goes_later) [] ≡ Fed' ends [] → EndsPath task limits secret ends → Settled
 
     ends_here : (chosen : List Bool) (reached : Reached) (ends : PathEnd) → EndsHere chosen reached ends
@@ -261,7 +272,7 @@ module _ (rules : Rules) (sound : AreSoundRules rules) (task : Task) (limits : L
       abbrev after : MaskedPlace
       after = walked.place
 
-      comes_next : ComesTo (suc turns) (placed setting other new.control after.state.store (passed past walk))
+      comes_next : ComesTo (suc turns) (placed setting other new.control walked.new_twin (passed past walk))
       comes_next =
           fed_next task.enclosures task.masks turns (real_start task secret) (replay_start task)
           (placed setting other by copy past) exposed_here along.comes
@@ -285,10 +296,10 @@ module _ (rules : Rules) (sound : AreSoundRules rules) (task : Task) (limits : L
       -- the replay follows
       follows_next : stopped_fault new.control.mode ≡ None → Follows task secret (suc turns)
       follows_next on = record {
-        place = placed setting other new.control after.state.store (passed past walk);
+        place = placed setting other new.control walked.new_twin (passed past walk);
         uses = comes_next;
         inside = refl;
-        mark = subst (λ (p : Place). SameMark p.state (state_of setting other new.control after.state.store))
+        mark = subst (λ (p : Place). SameMark p.state (state_of setting other new.control walked.new_twin))
             (sym next_is)
             (record { address = refl; written = refl; ended = end_alike new.control.mode on });
       }
@@ -323,7 +334,7 @@ module _ (rules : Rules) (sound : AreSoundRules rules) (task : Task) (limits : L
             (follows_all on)
             (λ last.
             subst (λ (p : ReplayPlace). HasExited p.state given)
-            (same_fed (placed setting other new.control after.state.store (passed past walk)) last.place []
+            (same_fed (placed setting other new.control walked.new_twin (passed past walk)) last.place []
             (sym comes_next ∙ last.uses))
             (record { bytes = refl; status = exits })))
 
@@ -344,7 +355,7 @@ module _ (rules : Rules) (sound : AreSoundRules rules) (task : Task) (limits : L
 
         abbrev goes_from : MaskedPlace
         goes_from =
-            walking_at setting other (with_output new.control after.state.control.output Ran) after.state.store
+            walking_at sees other (with_output new.control after.state.control.output Ran) after.state.store
             (passed past walk) after.labels after.crossed after.byte_masks after.status_mask
 
         place_is : after ≡ goes_from
@@ -381,6 +392,7 @@ module _ (rules : Rules) (sound : AreSoundRules rules) (task : Task) (limits : L
           written = after.state.control.output;
           real = new.store;
           copy = after.state.store;
+          twin = walked.new_twin;
           past = passed past walk;
           labels = after.labels;
           crossed = after.crossed;
@@ -393,6 +405,9 @@ module _ (rules : Rules) (sound : AreSoundRules rules) (task : Task) (limits : L
           stands =
               subst (λ m. StandsAt (with_output new.control new.control.output m) after.labels new.store
               after.state.store (passed past walk)) ran walked.stands;
+          also =
+              subst (λ m. StandsAt (with_output new.control new.control.output m) after.labels new.store
+              walked.new_twin (passed past walk)) ran walked.also;
           along = record {
             bits = along.bits ++ walked.chosen;
             left = less;
@@ -405,7 +420,7 @@ module _ (rules : Rules) (sound : AreSoundRules rules) (task : Task) (limits : L
                 omega (arith, common, are, left);
             comes =
                 subst (λ m. ComesTo (suc turns) (placed setting other (with_output new.control new.control.output m)
-                after.state.store (passed past walk))) ran comes_next;
+                walked.new_twin (passed past walk))) ran comes_next;
             crossed = crossed_next within;
             follows = follows_all (going_on new.control.mode Ran ran refl);
           };

@@ -18,7 +18,6 @@ use Rattle.masked_turns.specs.Looking.{look_at}
 use Rattle.region_machine.specs.Enclosures.{kind_of}
 use Rattle.replay_machine.specs.declared.outsides.Outside.{Outside}
 use Rattle.replay_machine.specs.ReplayTurns.{kind_outside_range, replay_kind_walk}
-use Rattle.run_labels.specs.Masks.{moved_label}
 use Rattle.run_labels.specs.Runs.{entered_number}
 use Rattle.run_labels.specs.TurnLabels.{put_label, save_labels, restore_labels}
 use Rattle.rv32im_machine.specs.declared.stepping.Stepped.{Stepped}
@@ -32,7 +31,7 @@ use Rattle.every_secret.specs.declared.path_ends.PathEnd.TheVariants.{Stops, Unc
 use Rattle.every_secret.specs.declared.stops.PathStop.TheVariants.{RangeOutside}
 use Rattle.every_secret.specs.declared.whys.UnclearWhy.TheVariants.{BaseSecret}
 use Rattle.every_secret.specs.Bounds.{free_count}
-use Rattle.every_secret.specs.Masked.{MaskedPlace, Reached, Goes, Meets, Halts, masked, unless_met, unclear_by_left, unclear_by_look}
+use Rattle.every_secret.specs.Masked.{Goes, Halts, MaskedPlace, Meets, Reached, label_moved, masked, unclear_by_left, unclear_by_look, unless_met}
 use Rattle.every_secret.specs.Paths.{tree_of}
 use Rattle.every_secret.specs.Replays.{MaskedReplay, ended_or, unless_exited, unless_over, unless_stopped, unmasked, walked_on}
 use Rattle.every_secret.specs.Rules.{Rules}
@@ -186,7 +185,7 @@ module _ (rules : Rules) (budget : ℕ) (small : budget < 4294967295) (next : Re
       omega (arith, all, fits)
   walk_weight cutting region known (Moved place shape source value walk) =
       walk_weight cutting region
-      (record known { labels = put_label place (moved_label known.labels shape source) known.labels }) walk
+      (record known { labels = put_label place (label_moved rules.public cutting.skipped known.labels place shape source) known.labels }) walk
   walk_weight cutting region known (Saved walk) =
       walk_weight cutting region (record known { labels = save_labels known.labels }) walk
   walk_weight cutting region known (Restored registers walk back) =

@@ -18,7 +18,6 @@ use Rattle.region_machine.specs.Enclosures.{kind_of}
 use Rattle.replay_machine.specs.declared.outsides.Outside.{Outside}
 use Rattle.replay_machine.specs.ReplayTurns.{kind_outside_range, replay_kind_walk}
 use Rattle.replay_machine.specs.Runs.{Masks}
-use Rattle.run_labels.specs.Masks.{moved_label}
 use Rattle.run_labels.specs.Runs.{entered_number}
 use Rattle.run_labels.specs.TurnLabels.{put_label, save_labels, restore_labels}
 use Rattle.rv32im_machine.specs.declared.stepping.Stepped.{Stepped}
@@ -31,7 +30,7 @@ use Rattle.every_secret.specs.declared.whys.UnclearWhy.{UnclearWhy}
 use Rattle.every_secret.specs.declared.path_ends.PathEnd.TheVariants.{Stops, Unclear}
 use Rattle.every_secret.specs.declared.stops.PathStop.TheVariants.{RangeOutside}
 use Rattle.every_secret.specs.declared.whys.UnclearWhy.TheVariants.{BaseSecret}
-use Rattle.every_secret.specs.Masked.{MaskedPlace, Reached, Goes, Meets, Halts, masked, unless_met, unclear_by_left, unclear_by_look}
+use Rattle.every_secret.specs.Masked.{Goes, Halts, MaskedPlace, Meets, Reached, label_moved, masked, unclear_by_left, unclear_by_look, unless_met}
 use Rattle.every_secret.specs.Paths.{tree_of}
 use Rattle.every_secret.specs.Replays.{MaskedReplay, ended_or, unless_exited, unless_over, unless_stopped, unmasked, walked_on}
 use Rattle.every_secret.specs.Rules.{Rules}
@@ -117,7 +116,7 @@ module _ (rules : Rules) (next : Reached → Asker PathEnd)
       fits_within less small = omega (arith, less, small)
   walk_words cutting fit region known (Moved place shape source value walk) keeps =
       walk_words cutting fit region
-      (record known { labels = put_label place (moved_label known.labels shape source) known.labels }) walk keeps
+      (record known { labels = put_label place (label_moved rules.public cutting.skipped known.labels place shape source) known.labels }) walk keeps
   walk_words cutting fit region known (Saved walk) keeps =
       walk_words cutting fit region (record known { labels = save_labels known.labels }) walk keeps
   walk_words cutting fit region known (Restored registers walk back) keeps =

@@ -11,5 +11,6 @@ pub mod Bounds
 pub mod BoundTexts
 pub mod Listed
 pub mod AllSecrets
+pub mod AnyPublic
 pub mod Laws
 pub mod Private

@@ -1,24 +1,33 @@
 -- One turn of a masked replay: it asks for the bits that are chosen, and stops where it would look at, or decide by, bits
 -- that may differ and have not crossed.
-use Rattle.std.specs.Prelude.{ℕ, List, Option, Some, None}
+use Rattle.std.specs.Prelude.{ℕ, Bool, false, not, List, Option, Some, None, if◌then◌else◌}
 use Rattle.flow_base.specs.declared.points.Point.{Point}
+use Rattle.flow_base.specs.Points.{nowhere}
 use Rattle.flow_base.specs.Words.{patched}
 use Rattle.crossing_bits.specs.Askers.{Asker, Asks, Over}
+use Rattle.rv32im_machine.specs.declared.language.Place.{Place}
+use Rattle.rv32im_machine.specs.declared.language.Place.TheVariants.{Register, Byte, First, Second}
+use Rattle.rv32im_machine.specs.declared.language.Shape.{Shape}
+use Rattle.rv32im_machine.specs.declared.language.Source.{Source}
+use Rattle.rv32im_machine.specs.declared.language.Source.TheVariants.{At, Constant, Secret}
 use Rattle.rv32im_machine.specs.Language.{Walk, Looked, Passed, Moved, Saved, Restored, Ended}
 use Rattle.rv32im_machine.specs.State.{State}
 use Rattle.replay_machine.specs.declared.outsides.Outside.{Outside}
+use Rattle.shadow_masks.specs.declared.labels.Label.{Label}
+use Rattle.shadow_masks.specs.Pages.{label_of}
 use Rattle.shadow_masks.specs.Writes.{LabelMap}
 use Rattle.run_labels.specs.Masks.{moved_label}
-use Rattle.run_labels.specs.TurnLabels.{put_label, save_labels, restore_labels}
+use Rattle.run_labels.specs.TurnLabels.{TurnLabels, put_label, save_labels, restore_labels}
 use Rattle.masked_turns.specs.declared.uses.LeftBits.{LeftBits}
 use Rattle.masked_turns.specs.declared.uses.SecretLook.{SecretLook}
 use Rattle.masked_turns.specs.declared.uses.SecretLook.TheVariants.{Code, BaseRegister}
 use Rattle.masked_turns.specs.Clearing.{Cutting}
 use Rattle.masked_turns.specs.Deciding.{left_at}
 use Rattle.masked_turns.specs.Looking.{look_at}
+use Rattle.every_secret.specs.declared.public_inputs.PublicInput.{PublicInput}
 use Rattle.every_secret.specs.declared.whys.UnclearWhy.{UnclearWhy}
 use Rattle.every_secret.specs.declared.whys.UnclearWhy.TheVariants.{SecretCode, BaseSecret, Left}
-use Rattle.every_secret.specs.Rules.{Rules}
+use Rattle.every_secret.specs.Rules.{Rules, public_mask}
 use Rattle.every_secret.specs.Shown.{asked_for, shown_at}
 use Rattle.every_secret.specs.Visits.{Knowledge, differing_at, known_after, left_of_mask}
 
@@ -53,6 +62,21 @@ abbrev pub unless_met : Option UnclearWhy → Asker Reached → Asker Reached
 unless_met None rest = rest
 unless_met (Some why) rest = Over (Meets why)
 
+-- a byte of memory that is put from no place is one of the public input, but for a skip, which clears outputs
+abbrev pub is_public_byte : Place → Source → Bool → Bool
+is_public_byte (Byte address) (Constant value) skipped = not skipped
+is_public_byte (Byte address) (At place) skipped = false
+is_public_byte (Byte address) (Secret index) skipped = false
+is_public_byte (Register register) source skipped = false
+is_public_byte First source skipped = false
+is_public_byte Second source skipped = false
+
+-- the label of what is moved to a place, in a turn that may be the skip of a region
+abbrev pub label_moved : PublicInput → Bool → TurnLabels → Place → Shape → Source → Label
+label_moved public skipped labels place shape source =
+    if is_public_byte place source skipped then label_of (public_mask public) nowhere
+    else moved_label labels shape source
+
 -- what is known at the end of a turn that has come to this state
 abbrev pub place_of : State → Knowledge → MaskedPlace
 place_of state known = record {
@@ -75,7 +99,7 @@ masked rules cutting region known (Passed passing go) =
     (go (patched passing.value (differing_at rules cutting known passing) bits))))
 masked rules cutting region known (Moved place shape source value walk) =
     masked rules cutting region
-    (record known { labels = put_label place (moved_label known.labels shape source) known.labels }) walk
+    (record known { labels = put_label place (label_moved rules.public cutting.skipped known.labels place shape source) known.labels }) walk
 masked rules cutting region known (Saved walk) =
     masked rules cutting region (record known { labels = save_labels known.labels }) walk
 masked rules cutting region known (Restored registers walk back) =

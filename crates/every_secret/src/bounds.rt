@@ -3,13 +3,15 @@ ghost use Rattle.cut_file.specs.Pictures.{cut_picture};
 ghost use Rattle.elf32_loader.specs.Images.{image_picture};
 ghost use Rattle.lockstep_replay.specs.Tasks.{task_of};
 ghost use Rattle.replay_machine.specs.Visits.{SameAhead};
-ghost use Rattle.rv32im_machine.specs.Start.{zeros};
-ghost use Rattle.every_secret.specs.AllSecrets.{TellsAll};
+ghost use Rattle.rv32im_machine.specs.Start.{zeros, zeros as zeros_list};
+ghost use Rattle.every_secret.specs.AnyPublic.{TellsOf, seen_input, seen_task};
 ghost use Rattle.every_secret.specs.Bounds.{Bounds, IsVerdict};
 ghost use Rattle.every_secret.specs.Rules.{AnswerAs, AreSoundRules, Rules};
 ghost use Rattle.every_secret.specs.Private.Searching.{IsDone, ShowsDone};
 ghost use Rattle.every_secret.specs.Private.Spots.{Basis};
+ghost use Rattle.every_secret.specs.Private.Tapes.{AreRulesOf, ruling_of};
 
+use crate::public_inputs::PublicInput;
 use crate::searching::{Search, Walks};
 use crate::starting::begin;
 use crate::stepping::{Step, make_step};
@@ -68,7 +70,7 @@ fn search_tree(alloc: Global, walks: Walks<'_>, limit: u32) -> Result<BoundVerdi
     requires zeros { length walks.zeros.now < 2 ^ 32 }
     requires limit { 1 ≤ limit }
     requires budget { walks.budget < 4294967295 }
-    ensures { IfOk result (λ verdict. (rules : Rules) → AnswerAs walks.entry.book.now.table rules →
+    ensures { IfOk result (λ verdict. (rules : Rules) → AreRulesOf (ruling_of walks.entry.book.now.table walks.entry.known) rules →
         walks.entry.zeros.now ≡ zeros walks.entry.cut.now.secret_len →
         SameAhead walks.entry.table.now walks.entry.cut.now.points →
         IsVerdict rules (task_of (image_picture walks.entry.image.now) walks.entry.public.now
@@ -106,41 +108,56 @@ fn search_tree(alloc: Global, walks: Walks<'_>, limit: u32) -> Result<BoundVerdi
     unreachable!()
 }
 
-/// Tells that the answer for a task tells of all secrets, by any sound rules.
+/// Tells that the answer for a task tells of all secrets, or of all pairs, by any sound rules.
 fn tell_bound(
     alloc: Global,
     image: &Image,
     public: &Bytes,
+    known: PublicInput,
     regions: &Regions,
     cut: &Cut,
     budget: u32,
     turns: u32,
 )
     requires { budget < 4294967295 }
-    ensures { (rules : Rules) → AreSoundRules rules →
-        TellsAll (task_of (image_picture image.now) public.now regions.now.items (cut_picture cut.now))
+    ensures { (rules : Rules) → AreSoundRules rules → rules.public ≡ known →
+        TellsOf known (task_of (image_picture image.now) public.now regions.now.items (cut_picture cut.now))
         (record { budget = budget; turns = turns }) (Bounds rules
-        (task_of (image_picture image.now) public.now regions.now.items (cut_picture cut.now))
+        (seen_task known (task_of (image_picture image.now) public.now regions.now.items (cut_picture cut.now)))
         (record { budget = budget; turns = turns })) }
 {
-    let _ = (budget, turns);
+    let _ = (known, budget, turns);
     let none = Bytes::new(alloc);
     tell_inputs(image, public, &none, regions);
     tell_cut(cut);
 }
 
-/// All outputs that any secret of the cut's length can give, for one program with its regions and one public input, by the
-/// mask rules of a book, within a budget of fewer than 4,294,967,295 bits and a limit of turns: the replay of the cut is
-/// walked with masks along every string of bits that can cross, from each state once, and at most so many walks are made,
-/// 1 or more. What is answered is what the definition says of the tree of all paths, or that this tree has more paths than
-/// walks may be made. So it is for every book whose rules are a function, as those of the books of tables 1 and 2; of
-/// another book nothing is said. Where these rules are sound, as those of both tables, and the answer is bounded, it tells
-/// of all secrets: each whose run exits and breaks no region is accepted, and one of the patterns stands for its output.
+/// The public input that is walked: these zeros stand for bytes that are not known.
+fn seen_bytes<'a>(known: PublicInput, public: &'a Bytes, zeros: &'a Bytes) -> &'a Bytes
+    requires { zeros.now ≡ zeros_list (length public.now) }
+    ensures { result.now ≡ seen_input known public.now }
+{
+    match known {
+        PublicInput::Given => public,
+        PublicInput::Any => zeros,
+    }
+}
+
+/// All outputs that any secret of the cut's length can give, for one program with its regions and one public input, or
+/// whatever the public input is, if it has as many bytes; by the mask rules of a book, within a budget of fewer than
+/// 4,294,967,295 bits and a limit of turns: the replay of the cut is walked with masks along every string of bits that can
+/// cross, from each state once, and at most so many walks are made, 1 or more. What is answered is what the definition
+/// says of the tree of all paths, or that this tree has more paths than walks may be made. So it is for every book whose
+/// rules are a function, as those of the books of tables 1 and 2; of another book nothing is said. Where these rules are
+/// sound, as those of both tables, and the answer is bounded, it tells of all secrets, and of all pairs of a public input
+/// and a secret where the public input is not known: each whose run exits and breaks no region is accepted, and one of the
+/// patterns stands for its output.
 /// `NoMemory` where there is not enough.
 pub fn bound(
     alloc: Global,
     image: &Image,
     public: &Bytes,
+    known: PublicInput,
     regions: &Regions,
     cut: &Cut,
     book: &RuleBook,
@@ -150,27 +167,31 @@ pub fn bound(
 ) -> Result<BoundVerdict, NoMemory>
     requires budget { budget < 4294967295 }
     requires paths { 1 ≤ paths }
-    ensures answer { IfOk result (λ verdict. (rules : Rules) → AnswerAs book.now.table rules →
-        IsVerdict rules (task_of (image_picture image.now) public.now regions.now.items (cut_picture cut.now))
+    ensures answer { IfOk result (λ verdict. (rules : Rules) → AnswerAs book.now.table rules → rules.public ≡ known →
+        IsVerdict rules
+        (seen_task known (task_of (image_picture image.now) public.now regions.now.items (cut_picture cut.now)))
         (record { budget = budget; turns = turns }) paths verdict) }
-    ensures all { (rules : Rules) → AreSoundRules rules →
-        TellsAll (task_of (image_picture image.now) public.now regions.now.items (cut_picture cut.now))
-        (record { budget = budget; turns = turns })
-        (Bounds rules (task_of (image_picture image.now) public.now regions.now.items (cut_picture cut.now))
+    ensures all { (rules : Rules) → AreSoundRules rules → rules.public ≡ known →
+        TellsOf known (task_of (image_picture image.now) public.now regions.now.items (cut_picture cut.now))
+        (record { budget = budget; turns = turns }) (Bounds rules
+        (seen_task known (task_of (image_picture image.now) public.now regions.now.items (cut_picture cut.now)))
         (record { budget = budget; turns = turns })) }
 {
-    tell_bound(alloc, image, public, regions, cut, budget, turns);
+    tell_bound(alloc, image, public, known, regions, cut, budget, turns);
+    let unknown = zeroed(alloc, public.len())?;
+    let seen = seen_bytes(known, public, &unknown);
     let zeros = zeroed(alloc, cut.secret_len as usize)?;
     let marked = MarkedRegions::new(alloc, copy_regions(alloc, regions)?)?;
     let table = CutTable::new(alloc, cut)?;
     let walks = Walks {
         image,
-        public,
+        public: seen,
         zeros: &zeros,
         marked: &marked,
         cut,
         table: &table,
         book,
+        known,
         budget,
         turns,
     };

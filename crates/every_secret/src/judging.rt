@@ -5,7 +5,7 @@ ghost use Rattle.every_secret.specs.declared.path_ends.PathEnd.TheVariants.{Exit
 ghost use Rattle.every_secret.specs.Bounds.{first_stop_of, halt_of};
 ghost use Rattle.every_secret.specs.Private.Searching.{FitsCame, JudgesSo};
 ghost use Rattle.every_secret.specs.Private.Sums.{stop_repeats};
-ghost use Rattle.every_secret.specs.Private.Tapes.{tape_of};
+ghost use Rattle.every_secret.specs.Private.Tapes.{ruling_of, tape_of};
 ghost use Rattle.every_secret.specs.Private.Walks.{end_of};
 ghost use Rattle.rv32im_machine.specs.State.{State};
 
@@ -40,7 +40,7 @@ fn pattern_shown(
     status: u8,
 ) -> Result<Pattern, NoMemory>
     ensures { IfOk result (λ pattern. Exits pattern ≡ end_of (Ending.Exited status) machine.now
-        (tape_of side.now.book.now.table side.now.shadow side.now.masks side.now.bits side.now.crossed side.now.byte_masks.items
+        (tape_of (ruling_of side.now.book.now.table side.now.known) side.now.shadow side.now.masks side.now.bits side.now.crossed side.now.byte_masks.items
         side.now.status_mask side.now.unclear)) }
 {
     Ok(Pattern {
@@ -78,7 +78,7 @@ fn judge_exit(
     after: u32,
 ) -> Result<Judged, NoMemory>
     ensures { IfOk result (λ judged. JudgesSo (Came.Ended (Ending.Exited status) after) machine.now
-        (tape_of side.now.book.now.table side.now.shadow side.now.masks side.now.bits side.now.crossed side.now.byte_masks.items
+        (tape_of (ruling_of side.now.book.now.table side.now.known) side.now.shadow side.now.masks side.now.bits side.now.crossed side.now.byte_masks.items
         side.now.status_mask side.now.unclear)
         findings.old findings.new judged) }
 {
@@ -118,7 +118,7 @@ fn judge_stop(
     after: u32,
 ) -> Result<Judged, NoMemory>
     ensures { (machine : State) → IfOk result (λ judged. JudgesSo (Came.Ended (Ending.Stopped stop) after) machine
-        (tape_of side.now.book.now.table side.now.shadow side.now.masks side.now.bits side.now.crossed side.now.byte_masks.items
+        (tape_of (ruling_of side.now.book.now.table side.now.known) side.now.shadow side.now.masks side.now.bits side.now.crossed side.now.byte_masks.items
         side.now.status_mask side.now.unclear)
         findings.old findings.new judged) }
 {
@@ -142,7 +142,7 @@ fn judge_end(
     after: u32,
 ) -> Result<Judged, NoMemory>
     ensures { IfOk result (λ judged. JudgesSo (Came.Ended ending after) machine.now
-        (tape_of side.now.book.now.table side.now.shadow side.now.masks side.now.bits side.now.crossed side.now.byte_masks.items
+        (tape_of (ruling_of side.now.book.now.table side.now.known) side.now.shadow side.now.masks side.now.bits side.now.crossed side.now.byte_masks.items
         side.now.status_mask side.now.unclear)
         findings.old findings.new judged) }
 {
@@ -163,7 +163,7 @@ pub(crate) fn judge(
 ) -> Result<Judged, NoMemory>
     requires fits { FitsCame came side.now.crossed }
     ensures { IfOk result (λ judged. JudgesSo came machine.now
-        (tape_of side.now.book.now.table side.now.shadow side.now.masks side.now.bits side.now.crossed side.now.byte_masks.items
+        (tape_of (ruling_of side.now.book.now.table side.now.known) side.now.shadow side.now.masks side.now.bits side.now.crossed side.now.byte_masks.items
         side.now.status_mask side.now.unclear)
         findings.old findings.new judged) }
 {

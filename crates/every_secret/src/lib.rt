@@ -18,6 +18,7 @@ mod open_places;
 mod path_ends;
 mod pattern_set;
 mod patterns;
+mod public_inputs;
 mod searching;
 mod shown;
 mod starting;
@@ -32,11 +33,12 @@ mod whys;
 
 pub use bounds::bound;
 pub use laws::{
-    bounds_tell_of_all_secrets, runs_choose_paths, same_states_have_the_same_below,
+    bounds_tell_of_all_pairs, bounds_tell_of_all_secrets, runs_choose_paths, same_states_have_the_same_below,
     tables_are_sound, tables_have_rules,
 };
 pub use numbers::{free_bits, output_bits, output_count};
 pub use patterns::Pattern;
+pub use public_inputs::PublicInput;
 pub use stops::PathStop;
 pub use verdicts::{BoundVerdict, Bounded, StoppedPath};
 pub use whys::UnclearWhy;

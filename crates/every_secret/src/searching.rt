@@ -5,12 +5,13 @@ ghost use Rattle.every_secret.specs.Private.Orders.{SameBefore};
 ghost use Rattle.every_secret.specs.Private.Searching.{CanGoBack, CanGoOn, FitsCame, FitsComing, FitsMet, GoesOrComes, GoesOrEnds, IsCome, IsBasis};
 ghost use Rattle.every_secret.specs.Private.Searching.{IsWalking, LooksUp, terms_of};
 ghost use Rattle.every_secret.specs.Private.Spots.{Basis};
-ghost use Rattle.every_secret.specs.Private.Tapes.{tape_of};
+ghost use Rattle.every_secret.specs.Private.Tapes.{ruling_of, tape_of};
 
 use crate::closed_states::{Closed, ClosedStates};
 use crate::endings::{Ending, ended};
 use crate::findings::Findings;
 use crate::open_places::{OpenPlace, put_last};
+use crate::public_inputs::PublicInput;
 use crate::stops::PathStop;
 use crate::sums::Sum;
 use crate::turns::make_turn;
@@ -29,6 +30,7 @@ use transfer_rules::RuleBook;
 #[derive(Clone, Copy)]
 pub(crate) struct Walks<'a> {
     pub image: &'a Image,
+    /// The public input, or as many zeros where its bytes are not known.
     pub public: &'a Bytes,
     /// As many zeros as the secret has bytes.
     pub zeros: &'a Bytes,
@@ -36,6 +38,8 @@ pub(crate) struct Walks<'a> {
     pub cut: &'a Cut,
     pub table: &'a CutTable,
     pub book: &'a RuleBook,
+    /// What is known of the public input.
+    pub known: PublicInput,
     pub budget: u32,
     pub turns: u32,
 }
@@ -78,17 +82,17 @@ fn look_up<'a>(
     left: u32,
 ) -> Result<Option<Closed>, NoMemory>
     requires full { side.now.bits.taken ≡ length side.now.bits.bits }
-    requires safe { CanGoOn (terms_of walks.book.now.table walks.marked.now.regions.items walks.cut.now.skip walks.budget
-        walks.turns) search.old (tape_of side.now.book.now.table side.now.shadow side.now.masks side.now.bits side.now.crossed side.now.byte_masks.items
+    requires safe { CanGoOn (terms_of (ruling_of walks.book.now.table walks.known) walks.marked.now.regions.items walks.cut.now.skip walks.budget
+        walks.turns) search.old (tape_of (ruling_of side.now.book.now.table side.now.known) side.now.shadow side.now.masks side.now.bits side.now.crossed side.now.byte_masks.items
         side.now.status_mask side.now.unclear) }
-    ensures safe { IfOk result (λ met. CanGoOn (terms_of walks.entry.book.now.table walks.entry.marked.now.regions.items walks.entry.cut.now.skip walks.entry.budget
-        walks.entry.turns) search.new (tape_of side.now.book.now.table side.now.shadow side.now.masks side.now.bits side.now.crossed side.now.byte_masks.items
+    ensures safe { IfOk result (λ met. CanGoOn (terms_of (ruling_of walks.entry.book.now.table walks.entry.known) walks.entry.marked.now.regions.items walks.entry.cut.now.skip walks.entry.budget
+        walks.entry.turns) search.new (tape_of (ruling_of side.now.book.now.table side.now.known) side.now.shadow side.now.masks side.now.bits side.now.crossed side.now.byte_masks.items
         side.now.status_mask side.now.unclear)) }
     ensures fits { IfOk result (λ met. FitsMet met side.now.crossed) }
-    ensures looks { IfOk result (λ met. (basis : Basis) → IsBasis (terms_of walks.entry.book.now.table walks.entry.marked.now.regions.items walks.entry.cut.now.skip walks.entry.budget
+    ensures looks { IfOk result (λ met. (basis : Basis) → IsBasis (terms_of (ruling_of walks.entry.book.now.table walks.entry.known) walks.entry.marked.now.regions.items walks.entry.cut.now.skip walks.entry.budget
         walks.entry.turns) basis →
-        IsWalking basis left search.old (tape_of side.now.book.now.table side.now.shadow side.now.masks side.now.bits side.now.crossed side.now.byte_masks.items
-        side.now.status_mask side.now.unclear) → LooksUp basis left met search.new (tape_of side.now.book.now.table side.now.shadow side.now.masks side.now.bits side.now.crossed side.now.byte_masks.items
+        IsWalking basis left search.old (tape_of (ruling_of side.now.book.now.table side.now.known) side.now.shadow side.now.masks side.now.bits side.now.crossed side.now.byte_masks.items
+        side.now.status_mask side.now.unclear) → LooksUp basis left met search.new (tape_of (ruling_of side.now.book.now.table side.now.known) side.now.shadow side.now.masks side.now.bits side.now.crossed side.now.byte_masks.items
         side.now.status_mask side.now.unclear)) }
 {
     side.shadow.tell_registers();
@@ -126,20 +130,20 @@ fn make_one(
     side: &mut Walking<'_>,
     walks: Walks<'_>,
 ) -> Result<Option<Ending>, NoMemory>
-    requires safe { CanGoOn (terms_of walks.book.now.table walks.marked.now.regions.items walks.cut.now.skip walks.budget
-        walks.turns) search.old (tape_of side.old.book.now.table side.old.shadow side.old.masks side.old.bits side.old.crossed side.old.byte_masks.items
+    requires safe { CanGoOn (terms_of (ruling_of walks.book.now.table walks.known) walks.marked.now.regions.items walks.cut.now.skip walks.budget
+        walks.turns) search.old (tape_of (ruling_of side.old.book.now.table side.old.known) side.old.shadow side.old.masks side.old.bits side.old.crossed side.old.byte_masks.items
         side.old.status_mask side.old.unclear) }
     ensures early { IfOk result (λ ending. SameBefore side.new.bits.bits side.old.bits.bits) }
-    ensures back { IfOk result (λ ending. CanGoBack (terms_of walks.entry.book.now.table walks.entry.marked.now.regions.items walks.entry.cut.now.skip walks.entry.budget
-        walks.entry.turns) search.new (tape_of side.new.book.now.table side.new.shadow side.new.masks side.new.bits side.new.crossed side.new.byte_masks.items
+    ensures back { IfOk result (λ ending. CanGoBack (terms_of (ruling_of walks.entry.book.now.table walks.entry.known) walks.entry.marked.now.regions.items walks.entry.cut.now.skip walks.entry.budget
+        walks.entry.turns) search.new (tape_of (ruling_of side.new.book.now.table side.new.known) side.new.shadow side.new.masks side.new.bits side.new.crossed side.new.byte_masks.items
         side.new.status_mask side.new.unclear)) }
-    ensures safe { IfOk result (λ ending. ending ≡ None → CanGoOn (terms_of walks.entry.book.now.table walks.entry.marked.now.regions.items walks.entry.cut.now.skip walks.entry.budget
-        walks.entry.turns) search.new (tape_of side.new.book.now.table side.new.shadow side.new.masks side.new.bits side.new.crossed side.new.byte_masks.items
+    ensures safe { IfOk result (λ ending. ending ≡ None → CanGoOn (terms_of (ruling_of walks.entry.book.now.table walks.entry.known) walks.entry.marked.now.regions.items walks.entry.cut.now.skip walks.entry.budget
+        walks.entry.turns) search.new (tape_of (ruling_of side.new.book.now.table side.new.known) side.new.shadow side.new.masks side.new.bits side.new.crossed side.new.byte_masks.items
         side.new.status_mask side.new.unclear)) }
-    ensures goes { IfOk result (λ ending. (basis : Basis) (left : ℕ) → IsBasis (terms_of walks.entry.book.now.table walks.entry.marked.now.regions.items walks.entry.cut.now.skip walks.entry.budget
+    ensures goes { IfOk result (λ ending. (basis : Basis) (left : ℕ) → IsBasis (terms_of (ruling_of walks.entry.book.now.table walks.entry.known) walks.entry.marked.now.regions.items walks.entry.cut.now.skip walks.entry.budget
         walks.entry.turns) basis →
-        IsWalking basis (suc left) search.old (tape_of side.old.book.now.table side.old.shadow side.old.masks side.old.bits side.old.crossed side.old.byte_masks.items
-        side.old.status_mask side.old.unclear) → GoesOrEnds basis left ending search.new (tape_of side.new.book.now.table side.new.shadow side.new.masks side.new.bits side.new.crossed side.new.byte_masks.items
+        IsWalking basis (suc left) search.old (tape_of (ruling_of side.old.book.now.table side.old.known) side.old.shadow side.old.masks side.old.bits side.old.crossed side.old.byte_masks.items
+        side.old.status_mask side.old.unclear) → GoesOrEnds basis left ending search.new (tape_of (ruling_of side.new.book.now.table side.new.known) side.new.shadow side.new.masks side.new.bits side.new.crossed side.new.byte_masks.items
         side.new.status_mask side.new.unclear)) }
 {
     let skip = walks.cut.skip.as_slice();
@@ -157,14 +161,14 @@ fn forget_idle(
     before: usize,
     depth: u32,
 )
-    requires safe { CanGoOn (terms_of walks.book.now.table walks.marked.now.regions.items walks.cut.now.skip walks.budget
-        walks.turns) search.old (tape_of side.now.book.now.table side.now.shadow side.now.masks side.now.bits side.now.crossed side.now.byte_masks.items
+    requires safe { CanGoOn (terms_of (ruling_of walks.book.now.table walks.known) walks.marked.now.regions.items walks.cut.now.skip walks.budget
+        walks.turns) search.old (tape_of (ruling_of side.now.book.now.table side.now.known) side.now.shadow side.now.masks side.now.bits side.now.crossed side.now.byte_masks.items
         side.now.status_mask side.now.unclear) }
-    ensures safe { CanGoOn (terms_of walks.entry.book.now.table walks.entry.marked.now.regions.items walks.entry.cut.now.skip walks.entry.budget
-        walks.entry.turns) search.new (tape_of side.now.book.now.table side.now.shadow side.now.masks side.now.bits side.now.crossed side.now.byte_masks.items
+    ensures safe { CanGoOn (terms_of (ruling_of walks.entry.book.now.table walks.entry.known) walks.entry.marked.now.regions.items walks.entry.cut.now.skip walks.entry.budget
+        walks.entry.turns) search.new (tape_of (ruling_of side.now.book.now.table side.now.known) side.now.shadow side.now.masks side.now.bits side.now.crossed side.now.byte_masks.items
         side.now.status_mask side.now.unclear) }
-    ensures goes { (basis : Basis) (left : ℕ) → IsWalking basis left search.old (tape_of side.now.book.now.table side.now.shadow side.now.masks side.now.bits side.now.crossed side.now.byte_masks.items
-        side.now.status_mask side.now.unclear) → IsWalking basis left search.new (tape_of side.now.book.now.table side.now.shadow side.now.masks side.now.bits side.now.crossed side.now.byte_masks.items
+    ensures goes { (basis : Basis) (left : ℕ) → IsWalking basis left search.old (tape_of (ruling_of side.now.book.now.table side.now.known) side.now.shadow side.now.masks side.now.bits side.now.crossed side.now.byte_masks.items
+        side.now.status_mask side.now.unclear) → IsWalking basis left search.new (tape_of (ruling_of side.now.book.now.table side.now.known) side.now.shadow side.now.masks side.now.bits side.now.crossed side.now.byte_masks.items
         side.now.status_mask side.now.unclear) }
 {
     let _ = walks;
@@ -183,22 +187,22 @@ fn go_on_known<'a>(
     left: u32,
 ) -> Result<Option<Came>, NoMemory>
     requires full { side.old.bits.taken ≡ length side.old.bits.bits }
-    requires safe { CanGoOn (terms_of walks.book.now.table walks.marked.now.regions.items walks.cut.now.skip walks.budget
-        walks.turns) search.old (tape_of side.old.book.now.table side.old.shadow side.old.masks side.old.bits side.old.crossed side.old.byte_masks.items
+    requires safe { CanGoOn (terms_of (ruling_of walks.book.now.table walks.known) walks.marked.now.regions.items walks.cut.now.skip walks.budget
+        walks.turns) search.old (tape_of (ruling_of side.old.book.now.table side.old.known) side.old.shadow side.old.masks side.old.bits side.old.crossed side.old.byte_masks.items
         side.old.status_mask side.old.unclear) }
     requires left { left + 1 < 2 ^ 32 }
     ensures early { IfOk result (λ came. SameBefore side.new.bits.bits side.old.bits.bits) }
-    ensures back { IfOk result (λ came. CanGoBack (terms_of walks.entry.book.now.table walks.entry.marked.now.regions.items walks.entry.cut.now.skip walks.entry.budget
-        walks.entry.turns) search.new (tape_of side.new.book.now.table side.new.shadow side.new.masks side.new.bits side.new.crossed side.new.byte_masks.items
+    ensures back { IfOk result (λ came. CanGoBack (terms_of (ruling_of walks.entry.book.now.table walks.entry.known) walks.entry.marked.now.regions.items walks.entry.cut.now.skip walks.entry.budget
+        walks.entry.turns) search.new (tape_of (ruling_of side.new.book.now.table side.new.known) side.new.shadow side.new.masks side.new.bits side.new.crossed side.new.byte_masks.items
         side.new.status_mask side.new.unclear)) }
-    ensures safe { IfOk result (λ came. came ≡ None → CanGoOn (terms_of walks.entry.book.now.table walks.entry.marked.now.regions.items walks.entry.cut.now.skip walks.entry.budget
-        walks.entry.turns) search.new (tape_of side.new.book.now.table side.new.shadow side.new.masks side.new.bits side.new.crossed side.new.byte_masks.items
+    ensures safe { IfOk result (λ came. came ≡ None → CanGoOn (terms_of (ruling_of walks.entry.book.now.table walks.entry.known) walks.entry.marked.now.regions.items walks.entry.cut.now.skip walks.entry.budget
+        walks.entry.turns) search.new (tape_of (ruling_of side.new.book.now.table side.new.known) side.new.shadow side.new.masks side.new.bits side.new.crossed side.new.byte_masks.items
         side.new.status_mask side.new.unclear)) }
     ensures fits { IfOk result (λ came. FitsComing came side.new.crossed) }
-    ensures goes { IfOk result (λ came. (basis : Basis) → IsBasis (terms_of walks.entry.book.now.table walks.entry.marked.now.regions.items walks.entry.cut.now.skip walks.entry.budget
+    ensures goes { IfOk result (λ came. (basis : Basis) → IsBasis (terms_of (ruling_of walks.entry.book.now.table walks.entry.known) walks.entry.marked.now.regions.items walks.entry.cut.now.skip walks.entry.budget
         walks.entry.turns) basis →
-        IsWalking basis (suc left) search.old (tape_of side.old.book.now.table side.old.shadow side.old.masks side.old.bits side.old.crossed side.old.byte_masks.items
-        side.old.status_mask side.old.unclear) → GoesOrComes basis left came search.new (tape_of side.new.book.now.table side.new.shadow side.new.masks side.new.bits side.new.crossed side.new.byte_masks.items
+        IsWalking basis (suc left) search.old (tape_of (ruling_of side.old.book.now.table side.old.known) side.old.shadow side.old.masks side.old.bits side.old.crossed side.old.byte_masks.items
+        side.old.status_mask side.old.unclear) → GoesOrComes basis left came search.new (tape_of (ruling_of side.new.book.now.table side.new.known) side.new.shadow side.new.masks side.new.bits side.new.crossed side.new.byte_masks.items
         side.new.status_mask side.new.unclear)) }
 {
     let before = search.opens.len();
@@ -228,22 +232,22 @@ fn go_on<'a>(
     walks: Walks<'_>,
     left: u32,
 ) -> Result<Option<Came>, NoMemory>
-    requires safe { CanGoOn (terms_of walks.book.now.table walks.marked.now.regions.items walks.cut.now.skip walks.budget
-        walks.turns) search.old (tape_of side.old.book.now.table side.old.shadow side.old.masks side.old.bits side.old.crossed side.old.byte_masks.items
+    requires safe { CanGoOn (terms_of (ruling_of walks.book.now.table walks.known) walks.marked.now.regions.items walks.cut.now.skip walks.budget
+        walks.turns) search.old (tape_of (ruling_of side.old.book.now.table side.old.known) side.old.shadow side.old.masks side.old.bits side.old.crossed side.old.byte_masks.items
         side.old.status_mask side.old.unclear) }
     requires left { left + 1 < 2 ^ 32 }
     ensures early { IfOk result (λ came. SameBefore side.new.bits.bits side.old.bits.bits) }
-    ensures back { IfOk result (λ came. CanGoBack (terms_of walks.entry.book.now.table walks.entry.marked.now.regions.items walks.entry.cut.now.skip walks.entry.budget
-        walks.entry.turns) search.new (tape_of side.new.book.now.table side.new.shadow side.new.masks side.new.bits side.new.crossed side.new.byte_masks.items
+    ensures back { IfOk result (λ came. CanGoBack (terms_of (ruling_of walks.entry.book.now.table walks.entry.known) walks.entry.marked.now.regions.items walks.entry.cut.now.skip walks.entry.budget
+        walks.entry.turns) search.new (tape_of (ruling_of side.new.book.now.table side.new.known) side.new.shadow side.new.masks side.new.bits side.new.crossed side.new.byte_masks.items
         side.new.status_mask side.new.unclear)) }
-    ensures safe { IfOk result (λ came. came ≡ None → CanGoOn (terms_of walks.entry.book.now.table walks.entry.marked.now.regions.items walks.entry.cut.now.skip walks.entry.budget
-        walks.entry.turns) search.new (tape_of side.new.book.now.table side.new.shadow side.new.masks side.new.bits side.new.crossed side.new.byte_masks.items
+    ensures safe { IfOk result (λ came. came ≡ None → CanGoOn (terms_of (ruling_of walks.entry.book.now.table walks.entry.known) walks.entry.marked.now.regions.items walks.entry.cut.now.skip walks.entry.budget
+        walks.entry.turns) search.new (tape_of (ruling_of side.new.book.now.table side.new.known) side.new.shadow side.new.masks side.new.bits side.new.crossed side.new.byte_masks.items
         side.new.status_mask side.new.unclear)) }
     ensures fits { IfOk result (λ came. FitsComing came side.new.crossed) }
-    ensures goes { IfOk result (λ came. (basis : Basis) → IsBasis (terms_of walks.entry.book.now.table walks.entry.marked.now.regions.items walks.entry.cut.now.skip walks.entry.budget
+    ensures goes { IfOk result (λ came. (basis : Basis) → IsBasis (terms_of (ruling_of walks.entry.book.now.table walks.entry.known) walks.entry.marked.now.regions.items walks.entry.cut.now.skip walks.entry.budget
         walks.entry.turns) basis →
-        IsWalking basis (suc left) search.old (tape_of side.old.book.now.table side.old.shadow side.old.masks side.old.bits side.old.crossed side.old.byte_masks.items
-        side.old.status_mask side.old.unclear) → GoesOrComes basis left came search.new (tape_of side.new.book.now.table side.new.shadow side.new.masks side.new.bits side.new.crossed side.new.byte_masks.items
+        IsWalking basis (suc left) search.old (tape_of (ruling_of side.old.book.now.table side.old.known) side.old.shadow side.old.masks side.old.bits side.old.crossed side.old.byte_masks.items
+        side.old.status_mask side.old.unclear) → GoesOrComes basis left came search.new (tape_of (ruling_of side.new.book.now.table side.new.known) side.new.shadow side.new.masks side.new.bits side.new.crossed side.new.byte_masks.items
         side.new.status_mask side.new.unclear)) }
 {
     if side.bits.left() == 0
@@ -267,18 +271,18 @@ pub(crate) fn walk<'a>(
     walks: Walks<'_>,
     left: u32,
 ) -> Result<Came, NoMemory>
-    requires safe { CanGoOn (terms_of walks.book.now.table walks.marked.now.regions.items walks.cut.now.skip walks.budget
-        walks.turns) search.old (tape_of side.old.book.now.table side.old.shadow side.old.masks side.old.bits side.old.crossed side.old.byte_masks.items
+    requires safe { CanGoOn (terms_of (ruling_of walks.book.now.table walks.known) walks.marked.now.regions.items walks.cut.now.skip walks.budget
+        walks.turns) search.old (tape_of (ruling_of side.old.book.now.table side.old.known) side.old.shadow side.old.masks side.old.bits side.old.crossed side.old.byte_masks.items
         side.old.status_mask side.old.unclear) }
     ensures early { IfOk result (λ came. SameBefore side.new.bits.bits side.old.bits.bits) }
-    ensures back { IfOk result (λ came. CanGoBack (terms_of walks.entry.book.now.table walks.entry.marked.now.regions.items walks.entry.cut.now.skip walks.entry.budget
-        walks.entry.turns) search.new (tape_of side.new.book.now.table side.new.shadow side.new.masks side.new.bits side.new.crossed side.new.byte_masks.items
+    ensures back { IfOk result (λ came. CanGoBack (terms_of (ruling_of walks.entry.book.now.table walks.entry.known) walks.entry.marked.now.regions.items walks.entry.cut.now.skip walks.entry.budget
+        walks.entry.turns) search.new (tape_of (ruling_of side.new.book.now.table side.new.known) side.new.shadow side.new.masks side.new.bits side.new.crossed side.new.byte_masks.items
         side.new.status_mask side.new.unclear)) }
     ensures fits { IfOk result (λ came. FitsCame came side.new.crossed) }
-    ensures comes { IfOk result (λ came. (basis : Basis) → IsBasis (terms_of walks.entry.book.now.table walks.entry.marked.now.regions.items walks.entry.cut.now.skip walks.entry.budget
+    ensures comes { IfOk result (λ came. (basis : Basis) → IsBasis (terms_of (ruling_of walks.entry.book.now.table walks.entry.known) walks.entry.marked.now.regions.items walks.entry.cut.now.skip walks.entry.budget
         walks.entry.turns) basis →
-        IsWalking basis left search.old (tape_of side.old.book.now.table side.old.shadow side.old.masks side.old.bits side.old.crossed side.old.byte_masks.items
-        side.old.status_mask side.old.unclear) → IsCome basis came search.new (tape_of side.new.book.now.table side.new.shadow side.new.masks side.new.bits side.new.crossed side.new.byte_masks.items
+        IsWalking basis left search.old (tape_of (ruling_of side.old.book.now.table side.old.known) side.old.shadow side.old.masks side.old.bits side.old.crossed side.old.byte_masks.items
+        side.old.status_mask side.old.unclear) → IsCome basis came search.new (tape_of (ruling_of side.new.book.now.table side.new.known) side.new.shadow side.new.masks side.new.bits side.new.crossed side.new.byte_masks.items
         side.new.status_mask side.new.unclear)) }
 {
     if left == 0 {
@@ -298,18 +302,18 @@ fn walk_on<'a>(
     walks: Walks<'_>,
     left: u32,
 ) -> Result<Came, NoMemory>
-    requires safe { CanGoOn (terms_of walks.book.now.table walks.marked.now.regions.items walks.cut.now.skip walks.budget
-        walks.turns) search.old (tape_of side.old.book.now.table side.old.shadow side.old.masks side.old.bits side.old.crossed side.old.byte_masks.items
+    requires safe { CanGoOn (terms_of (ruling_of walks.book.now.table walks.known) walks.marked.now.regions.items walks.cut.now.skip walks.budget
+        walks.turns) search.old (tape_of (ruling_of side.old.book.now.table side.old.known) side.old.shadow side.old.masks side.old.bits side.old.crossed side.old.byte_masks.items
         side.old.status_mask side.old.unclear) }
     ensures early { IfOk result (λ came. SameBefore side.new.bits.bits side.old.bits.bits) }
-    ensures back { IfOk result (λ came. CanGoBack (terms_of walks.entry.book.now.table walks.entry.marked.now.regions.items walks.entry.cut.now.skip walks.entry.budget
-        walks.entry.turns) search.new (tape_of side.new.book.now.table side.new.shadow side.new.masks side.new.bits side.new.crossed side.new.byte_masks.items
+    ensures back { IfOk result (λ came. CanGoBack (terms_of (ruling_of walks.entry.book.now.table walks.entry.known) walks.entry.marked.now.regions.items walks.entry.cut.now.skip walks.entry.budget
+        walks.entry.turns) search.new (tape_of (ruling_of side.new.book.now.table side.new.known) side.new.shadow side.new.masks side.new.bits side.new.crossed side.new.byte_masks.items
         side.new.status_mask side.new.unclear)) }
     ensures fits { IfOk result (λ came. FitsCame came side.new.crossed) }
-    ensures comes { IfOk result (λ came. (basis : Basis) → IsBasis (terms_of walks.entry.book.now.table walks.entry.marked.now.regions.items walks.entry.cut.now.skip walks.entry.budget
+    ensures comes { IfOk result (λ came. (basis : Basis) → IsBasis (terms_of (ruling_of walks.entry.book.now.table walks.entry.known) walks.entry.marked.now.regions.items walks.entry.cut.now.skip walks.entry.budget
         walks.entry.turns) basis →
-        IsWalking basis left search.old (tape_of side.old.book.now.table side.old.shadow side.old.masks side.old.bits side.old.crossed side.old.byte_masks.items
-        side.old.status_mask side.old.unclear) → IsCome basis came search.new (tape_of side.new.book.now.table side.new.shadow side.new.masks side.new.bits side.new.crossed side.new.byte_masks.items
+        IsWalking basis left search.old (tape_of (ruling_of side.old.book.now.table side.old.known) side.old.shadow side.old.masks side.old.bits side.old.crossed side.old.byte_masks.items
+        side.old.status_mask side.old.unclear) → IsCome basis came search.new (tape_of (ruling_of side.new.book.now.table side.new.known) side.new.shadow side.new.masks side.new.bits side.new.crossed side.new.byte_masks.items
         side.new.status_mask side.new.unclear)) }
 {
     for made in 0..left {
@@ -323,10 +327,10 @@ fn walk_on<'a>(
 /// No turn is left.
 fn late(search: &Search<'_>, side: &Walking<'_>, walks: Walks<'_>) -> Came
     ensures fits { FitsCame result side.now.crossed }
-    ensures comes { (basis : Basis) → IsBasis (terms_of walks.entry.book.now.table walks.entry.marked.now.regions.items walks.entry.cut.now.skip walks.entry.budget
-        walks.entry.turns) basis → IsWalking basis 0 search.now (tape_of side.now.book.now.table side.now.shadow side.now.masks side.now.bits side.now.crossed side.now.byte_masks.items
+    ensures comes { (basis : Basis) → IsBasis (terms_of (ruling_of walks.entry.book.now.table walks.entry.known) walks.entry.marked.now.regions.items walks.entry.cut.now.skip walks.entry.budget
+        walks.entry.turns) basis → IsWalking basis 0 search.now (tape_of (ruling_of side.now.book.now.table side.now.known) side.now.shadow side.now.masks side.now.bits side.now.crossed side.now.byte_masks.items
         side.now.status_mask side.now.unclear) →
-        IsCome basis result search.now (tape_of side.now.book.now.table side.now.shadow side.now.masks side.now.bits side.now.crossed side.now.byte_masks.items
+        IsCome basis result search.now (tape_of (ruling_of side.now.book.now.table side.now.known) side.now.shadow side.now.masks side.now.bits side.now.crossed side.now.byte_masks.items
         side.now.status_mask side.now.unclear) }
 {
     let _ = search;

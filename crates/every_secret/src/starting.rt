@@ -6,9 +6,9 @@ ghost use Rattle.elf32_loader.specs.Images.{image_picture};
 ghost use Rattle.lockstep_replay.specs.Tasks.{task_of};
 ghost use Rattle.replay_machine.specs.Visits.{SameAhead};
 ghost use Rattle.rv32im_machine.specs.Start.{start, zeros};
-ghost use Rattle.every_secret.specs.Rules.{AnswerAs, Rules};
+ghost use Rattle.every_secret.specs.Rules.{Rules};
 ghost use Rattle.every_secret.specs.Private.Searching.{CanGoOn, IsFirst, IsFirstTape, IsWalking, OpensStart, basis_of, terms_of};
-ghost use Rattle.every_secret.specs.Private.Tapes.{tape_of};
+ghost use Rattle.every_secret.specs.Private.Tapes.{AreRulesOf, ruling_of, tape_of};
 
 use crate::closed_states::ClosedStates;
 use crate::findings::Findings;
@@ -30,8 +30,8 @@ use tracked_run::Held;
 /// A walk before its first turn, of a guest whose memory begins at an address, on an empty string.
 /// `NoMemory` where there is not enough.
 fn first_side<'a>(alloc: Global, walks: Walks<'a>) -> Result<Walking<'a>, NoMemory>
-    ensures { IfOk result (λ side. IsFirstTape walks.entry.book.now.table walks.entry.image.now.base walks.entry.table.now
-        (tape_of side.book.now.table side.shadow side.masks side.bits side.crossed side.byte_masks.items
+    ensures { IfOk result (λ side. IsFirstTape (ruling_of walks.entry.book.now.table walks.entry.known) walks.entry.image.now.base walks.entry.table.now
+        (tape_of (ruling_of side.book.now.table side.known) side.shadow side.masks side.bits side.crossed side.byte_masks.items
         side.status_mask side.unclear)) }
 {
     let shadow = Shadow::new(alloc, walks.image.base)?;
@@ -45,6 +45,7 @@ fn first_side<'a>(alloc: Global, walks: Walks<'a>) -> Result<Walking<'a>, NoMemo
         byte_masks: Vec::new(alloc),
         status_mask: 0,
         book: walks.book,
+        known: walks.known,
         held: Held::none(),
         region: 0,
         skipped: false,
@@ -83,7 +84,7 @@ fn open_start<'a>(
     requires first { IsFirst search.old.machine search.old }
     requires base { side.now.shadow.base ≡ search.old.machine.setting.base }
     ensures { OnOk result (OpensStart search.old search.new
-        (tape_of side.now.book.now.table side.now.shadow side.now.masks side.now.bits side.now.crossed side.now.byte_masks.items
+        (tape_of (ruling_of side.now.book.now.table side.now.known) side.now.shadow side.now.masks side.now.bits side.now.crossed side.now.byte_masks.items
         side.now.status_mask side.now.unclear) turns) }
 {
     side.shadow.tell_registers();
@@ -114,18 +115,18 @@ pub(crate) fn begin<'a>(
     walks: Walks<'a>,
 ) -> Result<(Search<'a>, Walking<'a>), NoMemory>
     requires zeros { length walks.zeros.now < 2 ^ 32 }
-    ensures safe { IfOk result (λ both. CanGoOn (terms_of walks.entry.book.now.table walks.entry.marked.now.regions.items walks.entry.cut.now.skip walks.entry.budget
+    ensures safe { IfOk result (λ both. CanGoOn (terms_of (ruling_of walks.entry.book.now.table walks.entry.known) walks.entry.marked.now.regions.items walks.entry.cut.now.skip walks.entry.budget
         walks.entry.turns) both.0
-        (tape_of both.1.book.now.table both.1.shadow both.1.masks both.1.bits both.1.crossed both.1.byte_masks.items
+        (tape_of (ruling_of both.1.book.now.table both.1.known) both.1.shadow both.1.masks both.1.bits both.1.crossed both.1.byte_masks.items
         both.1.status_mask both.1.unclear)) }
     ensures bits { IfOk result (λ both. both.1.bits.bits ≡ []) }
-    ensures walks { IfOk result (λ both. (rules : Rules) → AnswerAs walks.entry.book.now.table rules →
+    ensures walks { IfOk result (λ both. (rules : Rules) → AreRulesOf (ruling_of walks.entry.book.now.table walks.entry.known) rules →
         walks.entry.zeros.now ≡ zeros walks.entry.cut.now.secret_len →
         SameAhead walks.entry.table.now walks.entry.cut.now.points →
         IsWalking (basis_of rules (task_of (image_picture walks.entry.image.now) walks.entry.public.now
         walks.entry.marked.now.regions.items (cut_picture walks.entry.cut.now)) walks.entry.budget walks.entry.turns)
         walks.entry.turns both.0
-        (tape_of both.1.book.now.table both.1.shadow both.1.masks both.1.bits both.1.crossed both.1.byte_masks.items
+        (tape_of (ruling_of both.1.book.now.table both.1.known) both.1.shadow both.1.masks both.1.bits both.1.crossed both.1.byte_masks.items
         both.1.status_mask both.1.unclear)) }
 {
     let mut search = first_search(alloc, walks)?;

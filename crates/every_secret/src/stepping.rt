@@ -8,7 +8,7 @@ ghost use Rattle.every_secret.specs.Private.Orders.{earlier};
 ghost use Rattle.every_secret.specs.Private.Searching.{CanGoBack, CanGoOn, IsAdded, IsDeep, IsBasis, IsSearched, IsWalking, KeepsLimit};
 ghost use Rattle.every_secret.specs.Private.Searching.{Settles, StepsSafely, StepsTo, terms_of, turned_at};
 ghost use Rattle.every_secret.specs.Private.Spots.{Basis, tree_in};
-ghost use Rattle.every_secret.specs.Private.Tapes.{tape_of};
+ghost use Rattle.every_secret.specs.Private.Tapes.{ruling_of, tape_of};
 
 use crate::bit_strings::{last_zero, skip, turned};
 use crate::closed_states::{Closed, ClosedStates};
@@ -86,18 +86,18 @@ fn close_behind<'a>(
     keep: usize,
     turn: usize,
 ) -> Result<(), NoMemory>
-    requires back { CanGoBack (terms_of walks.book.now.table walks.marked.now.regions.items walks.cut.now.skip walks.budget
-        walks.turns) search.old (tape_of side.now.book.now.table side.now.shadow side.now.masks side.now.bits side.now.crossed side.now.byte_masks.items
+    requires back { CanGoBack (terms_of (ruling_of walks.book.now.table walks.known) walks.marked.now.regions.items walks.cut.now.skip walks.budget
+        walks.turns) search.old (tape_of (ruling_of side.now.book.now.table side.now.known) side.now.shadow side.now.masks side.now.bits side.now.crossed side.now.byte_masks.items
         side.now.status_mask side.now.unclear) }
     requires some { 1 ≤ keep }
-    ensures back { OnOk result (CanGoBack (terms_of walks.entry.book.now.table walks.entry.marked.now.regions.items walks.entry.cut.now.skip walks.entry.budget
-        walks.entry.turns) search.new (tape_of side.now.book.now.table side.now.shadow side.now.masks side.now.bits side.now.crossed side.now.byte_masks.items
+    ensures back { OnOk result (CanGoBack (terms_of (ruling_of walks.entry.book.now.table walks.entry.known) walks.entry.marked.now.regions.items walks.entry.cut.now.skip walks.entry.budget
+        walks.entry.turns) search.new (tape_of (ruling_of side.now.book.now.table side.now.known) side.now.shadow side.now.masks side.now.bits side.now.crossed side.now.byte_masks.items
         side.now.status_mask side.now.unclear)) }
     ensures opens { OnOk result (search.new.opens.items ≡ take keep search.old.opens.items) }
-    ensures settles { OnOk result ((basis : Basis) → IsBasis (terms_of walks.entry.book.now.table walks.entry.marked.now.regions.items walks.entry.cut.now.skip walks.entry.budget
+    ensures settles { OnOk result ((basis : Basis) → IsBasis (terms_of (ruling_of walks.entry.book.now.table walks.entry.known) walks.entry.marked.now.regions.items walks.entry.cut.now.skip walks.entry.budget
         walks.entry.turns) basis →
-        Settles basis turn search.old (tape_of side.now.book.now.table side.now.shadow side.now.masks side.now.bits side.now.crossed side.now.byte_masks.items
-        side.now.status_mask side.now.unclear) → Settles basis turn search.new (tape_of side.now.book.now.table side.now.shadow side.now.masks side.now.bits side.now.crossed side.now.byte_masks.items
+        Settles basis turn search.old (tape_of (ruling_of side.now.book.now.table side.now.known) side.now.shadow side.now.masks side.now.bits side.now.crossed side.now.byte_masks.items
+        side.now.status_mask side.now.unclear) → Settles basis turn search.new (tape_of (ruling_of side.now.book.now.table side.now.known) side.now.shadow side.now.masks side.now.bits side.now.crossed side.now.byte_masks.items
         side.now.status_mask side.now.unclear)) }
 {
     let _ = walks;
@@ -118,18 +118,18 @@ fn go_back<'a>(
     walks: Walks<'_>,
     next: Bits,
 ) -> Result<u32, NoMemory>
-    requires back { CanGoBack (terms_of walks.book.now.table walks.marked.now.regions.items walks.cut.now.skip walks.budget
-        walks.turns) search.old (tape_of side.old.book.now.table side.old.shadow side.old.masks side.old.bits side.old.crossed side.old.byte_masks.items
+    requires back { CanGoBack (terms_of (ruling_of walks.book.now.table walks.known) walks.marked.now.regions.items walks.cut.now.skip walks.budget
+        walks.turns) search.old (tape_of (ruling_of side.old.book.now.table side.old.known) side.old.shadow side.old.masks side.old.bits side.old.crossed side.old.byte_masks.items
         side.old.status_mask side.old.unclear) }
     requires taken { next.taken ≡ 0 }
     requires deep { AllByRecursion (IsDeep (length next.bits)) search.old.opens.items }
-    ensures safe { IfOk result (λ left. CanGoOn (terms_of walks.entry.book.now.table walks.entry.marked.now.regions.items walks.entry.cut.now.skip walks.entry.budget
-        walks.entry.turns) search.new (tape_of side.new.book.now.table side.new.shadow side.new.masks side.new.bits side.new.crossed side.new.byte_masks.items
+    ensures safe { IfOk result (λ left. CanGoOn (terms_of (ruling_of walks.entry.book.now.table walks.entry.known) walks.entry.marked.now.regions.items walks.entry.cut.now.skip walks.entry.budget
+        walks.entry.turns) search.new (tape_of (ruling_of side.new.book.now.table side.new.known) side.new.shadow side.new.masks side.new.bits side.new.crossed side.new.byte_masks.items
         side.new.status_mask side.new.unclear)) }
     ensures bits { IfOk result (λ left. side.new.bits.bits ≡ next.bits) }
-    ensures walks { IfOk result (λ left. (basis : Basis) → IsBasis (terms_of walks.entry.book.now.table walks.entry.marked.now.regions.items walks.entry.cut.now.skip walks.entry.budget
+    ensures walks { IfOk result (λ left. (basis : Basis) → IsBasis (terms_of (ruling_of walks.entry.book.now.table walks.entry.known) walks.entry.marked.now.regions.items walks.entry.cut.now.skip walks.entry.budget
         walks.entry.turns) basis →
-        IsSearched basis next.bits search.old → Opens (tree_in basis) next.bits → IsWalking basis left search.new (tape_of side.new.book.now.table side.new.shadow side.new.masks side.new.bits side.new.crossed side.new.byte_masks.items
+        IsSearched basis next.bits search.old → Opens (tree_in basis) next.bits → IsWalking basis left search.new (tape_of (ruling_of side.new.book.now.table side.new.known) side.new.shadow side.new.masks side.new.bits side.new.crossed side.new.byte_masks.items
         side.new.status_mask side.new.unclear)) }
 {
     let _ = walks;
@@ -162,19 +162,19 @@ fn turn_back<'a>(
     walks: Walks<'_>,
     turn: usize,
 ) -> Result<u32, NoMemory>
-    requires back { CanGoBack (terms_of walks.book.now.table walks.marked.now.regions.items walks.cut.now.skip walks.budget
-        walks.turns) search.old (tape_of side.old.book.now.table side.old.shadow side.old.masks side.old.bits side.old.crossed side.old.byte_masks.items
+    requires back { CanGoBack (terms_of (ruling_of walks.book.now.table walks.known) walks.marked.now.regions.items walks.cut.now.skip walks.budget
+        walks.turns) search.old (tape_of (ruling_of side.old.book.now.table side.old.known) side.old.shadow side.old.masks side.old.bits side.old.crossed side.old.byte_masks.items
         side.old.status_mask side.old.unclear) }
     requires within { turn < length side.old.bits.bits }
-    ensures safe { IfOk result (λ left. CanGoOn (terms_of walks.entry.book.now.table walks.entry.marked.now.regions.items walks.entry.cut.now.skip walks.entry.budget
-        walks.entry.turns) search.new (tape_of side.new.book.now.table side.new.shadow side.new.masks side.new.bits side.new.crossed side.new.byte_masks.items
+    ensures safe { IfOk result (λ left. CanGoOn (terms_of (ruling_of walks.entry.book.now.table walks.entry.known) walks.entry.marked.now.regions.items walks.entry.cut.now.skip walks.entry.budget
+        walks.entry.turns) search.new (tape_of (ruling_of side.new.book.now.table side.new.known) side.new.shadow side.new.masks side.new.bits side.new.crossed side.new.byte_masks.items
         side.new.status_mask side.new.unclear)) }
     ensures bits { IfOk result (λ left. side.new.bits.bits ≡ turned_at turn side.old.bits.bits) }
-    ensures walks { IfOk result (λ left. (basis : Basis) → IsBasis (terms_of walks.entry.book.now.table walks.entry.marked.now.regions.items walks.entry.cut.now.skip walks.entry.budget
+    ensures walks { IfOk result (λ left. (basis : Basis) → IsBasis (terms_of (ruling_of walks.entry.book.now.table walks.entry.known) walks.entry.marked.now.regions.items walks.entry.cut.now.skip walks.entry.budget
         walks.entry.turns) basis →
-        Settles basis turn search.old (tape_of side.old.book.now.table side.old.shadow side.old.masks side.old.bits side.old.crossed side.old.byte_masks.items
+        Settles basis turn search.old (tape_of (ruling_of side.old.book.now.table side.old.known) side.old.shadow side.old.masks side.old.bits side.old.crossed side.old.byte_masks.items
         side.old.status_mask side.old.unclear) → Opens (tree_in basis) (turned_at turn side.old.bits.bits) →
-        IsWalking basis left search.new (tape_of side.new.book.now.table side.new.shadow side.new.masks side.new.bits side.new.crossed side.new.byte_masks.items
+        IsWalking basis left search.new (tape_of (ruling_of side.new.book.now.table side.new.known) side.new.shadow side.new.masks side.new.bits side.new.crossed side.new.byte_masks.items
         side.new.status_mask side.new.unclear)) }
 {
     let next = turned(alloc, &side.bits, turn)?;
@@ -192,18 +192,18 @@ fn settle<'a>(
     walks: Walks<'_>,
     is_last: bool,
 ) -> Result<Step, NoMemory>
-    requires back { CanGoBack (terms_of walks.book.now.table walks.marked.now.regions.items walks.cut.now.skip walks.budget
-        walks.turns) search.old (tape_of side.old.book.now.table side.old.shadow side.old.masks side.old.bits side.old.crossed side.old.byte_masks.items
+    requires back { CanGoBack (terms_of (ruling_of walks.book.now.table walks.known) walks.marked.now.regions.items walks.cut.now.skip walks.budget
+        walks.turns) search.old (tape_of (ruling_of side.old.book.now.table side.old.known) side.old.shadow side.old.masks side.old.bits side.old.crossed side.old.byte_masks.items
         side.old.status_mask side.old.unclear) }
-    ensures safe { IfOk result (λ step. StepsSafely (terms_of walks.entry.book.now.table walks.entry.marked.now.regions.items walks.entry.cut.now.skip walks.entry.budget
-        walks.entry.turns) step search.new (tape_of side.new.book.now.table side.new.shadow side.new.masks side.new.bits side.new.crossed side.new.byte_masks.items
+    ensures safe { IfOk result (λ step. StepsSafely (terms_of (ruling_of walks.entry.book.now.table walks.entry.known) walks.entry.marked.now.regions.items walks.entry.cut.now.skip walks.entry.budget
+        walks.entry.turns) step search.new (tape_of (ruling_of side.new.book.now.table side.new.known) side.new.shadow side.new.masks side.new.bits side.new.crossed side.new.byte_masks.items
         side.new.status_mask side.new.unclear)) }
     ensures last { IfOk result (λ step. KeepsLimit is_last step) }
-    ensures steps { IfOk result (λ step. (basis : Basis) → IsBasis (terms_of walks.entry.book.now.table walks.entry.marked.now.regions.items walks.entry.cut.now.skip walks.entry.budget
+    ensures steps { IfOk result (λ step. (basis : Basis) → IsBasis (terms_of (ruling_of walks.entry.book.now.table walks.entry.known) walks.entry.marked.now.regions.items walks.entry.cut.now.skip walks.entry.budget
         walks.entry.turns) basis →
-        IsAdded basis search.old (tape_of side.old.book.now.table side.old.shadow side.old.masks side.old.bits side.old.crossed side.old.byte_masks.items
+        IsAdded basis search.old (tape_of (ruling_of side.old.book.now.table side.old.known) side.old.shadow side.old.masks side.old.bits side.old.crossed side.old.byte_masks.items
         side.old.status_mask side.old.unclear) →
-        StepsTo basis (length (earlier (tree_in basis) side.old.bits.bits)) step search.new (tape_of side.new.book.now.table side.new.shadow side.new.masks side.new.bits side.new.crossed side.new.byte_masks.items
+        StepsTo basis (length (earlier (tree_in basis) side.old.bits.bits)) step search.new (tape_of (ruling_of side.new.book.now.table side.new.known) side.new.shadow side.new.masks side.new.bits side.new.crossed side.new.byte_masks.items
         side.new.status_mask side.new.unclear)) }
 {
     match last_zero(side.bits.as_slice()) {
@@ -225,18 +225,18 @@ pub(crate) fn make_step<'a>(
     left: u32,
     is_last: bool,
 ) -> Result<Step, NoMemory>
-    requires safe { CanGoOn (terms_of walks.book.now.table walks.marked.now.regions.items walks.cut.now.skip walks.budget
-        walks.turns) search.old (tape_of side.old.book.now.table side.old.shadow side.old.masks side.old.bits side.old.crossed side.old.byte_masks.items
+    requires safe { CanGoOn (terms_of (ruling_of walks.book.now.table walks.known) walks.marked.now.regions.items walks.cut.now.skip walks.budget
+        walks.turns) search.old (tape_of (ruling_of side.old.book.now.table side.old.known) side.old.shadow side.old.masks side.old.bits side.old.crossed side.old.byte_masks.items
         side.old.status_mask side.old.unclear) }
-    ensures safe { IfOk result (λ step. StepsSafely (terms_of walks.entry.book.now.table walks.entry.marked.now.regions.items walks.entry.cut.now.skip walks.entry.budget
-        walks.entry.turns) step search.new (tape_of side.new.book.now.table side.new.shadow side.new.masks side.new.bits side.new.crossed side.new.byte_masks.items
+    ensures safe { IfOk result (λ step. StepsSafely (terms_of (ruling_of walks.entry.book.now.table walks.entry.known) walks.entry.marked.now.regions.items walks.entry.cut.now.skip walks.entry.budget
+        walks.entry.turns) step search.new (tape_of (ruling_of side.new.book.now.table side.new.known) side.new.shadow side.new.masks side.new.bits side.new.crossed side.new.byte_masks.items
         side.new.status_mask side.new.unclear)) }
     ensures last { IfOk result (λ step. KeepsLimit is_last step) }
-    ensures steps { IfOk result (λ step. (basis : Basis) → IsBasis (terms_of walks.entry.book.now.table walks.entry.marked.now.regions.items walks.entry.cut.now.skip walks.entry.budget
+    ensures steps { IfOk result (λ step. (basis : Basis) → IsBasis (terms_of (ruling_of walks.entry.book.now.table walks.entry.known) walks.entry.marked.now.regions.items walks.entry.cut.now.skip walks.entry.budget
         walks.entry.turns) basis →
-        IsWalking basis left search.old (tape_of side.old.book.now.table side.old.shadow side.old.masks side.old.bits side.old.crossed side.old.byte_masks.items
+        IsWalking basis left search.old (tape_of (ruling_of side.old.book.now.table side.old.known) side.old.shadow side.old.masks side.old.bits side.old.crossed side.old.byte_masks.items
         side.old.status_mask side.old.unclear) →
-        StepsTo basis (length (earlier (tree_in basis) side.old.bits.bits)) step search.new (tape_of side.new.book.now.table side.new.shadow side.new.masks side.new.bits side.new.crossed side.new.byte_masks.items
+        StepsTo basis (length (earlier (tree_in basis) side.old.bits.bits)) step search.new (tape_of (ruling_of side.new.book.now.table side.new.known) side.new.shadow side.new.masks side.new.bits side.new.crossed side.new.byte_masks.items
         side.new.status_mask side.new.unclear)) }
 {
     let came = walk(alloc, search, side, walks, left)?;

@@ -10,8 +10,8 @@ ghost use Rattle.rv32im_machine.specs.Playing.{Knows, outcome};
 ghost use Rattle.run_labels.specs.Runs.{entered_number as number_entered};
 ghost use Rattle.lockstep_replay.specs.Tasks.{Task};
 ghost use Rattle.every_secret.specs.Masked.{MaskedPlace};
-ghost use Rattle.every_secret.specs.Rules.{AnswerAs, Rules};
-ghost use Rattle.every_secret.specs.Private.Tapes.{HoldsPlace, Lengthens, tape_of};
+ghost use Rattle.every_secret.specs.Rules.{Rules};
+ghost use Rattle.every_secret.specs.Private.Tapes.{AreRulesOf, HoldsPlace, Lengthens, ruling_of, tape_of};
 ghost use Rattle.every_secret.specs.Private.Turning.{IsReady, MakesFed, MakesKind};
 ghost use Rattle.every_secret.specs.Turns.{masked_turn, skips as is_skip};
 
@@ -87,9 +87,9 @@ fn enter(
     ensures makes { IfOk result (λ outside. (regions : Seq TheRegion) →
         MakesKind (record { regions = regions; skip = skip.now }) (Enters region.now) side.old.region side.old.skipped
         side.old.held machine.old
-        (tape_of side.old.book.now.table side.old.shadow side.old.masks side.old.bits side.old.crossed
+        (tape_of (ruling_of side.old.book.now.table side.old.known) side.old.shadow side.old.masks side.old.bits side.old.crossed
         side.old.byte_masks.items side.old.status_mask side.old.unclear) outside machine.new
-        (tape_of side.new.book.now.table side.new.shadow side.new.masks side.new.bits side.new.crossed
+        (tape_of (ruling_of side.new.book.now.table side.new.known) side.new.shadow side.new.masks side.new.bits side.new.crossed
         side.new.byte_masks.items side.new.status_mask side.new.unclear)) }
 {
     if let Some(register) = secret_base(&side.shadow, region.ranges.as_slice()) {
@@ -124,9 +124,9 @@ fn make_kind(
     ensures makes { IfOk result (λ outside. (regions : Seq TheRegion) →
         MakesKind (record { regions = regions; skip = skip.now }) (seen turn.entry) side.old.region side.old.skipped
         side.old.held machine.old
-        (tape_of side.old.book.now.table side.old.shadow side.old.masks side.old.bits side.old.crossed
+        (tape_of (ruling_of side.old.book.now.table side.old.known) side.old.shadow side.old.masks side.old.bits side.old.crossed
         side.old.byte_masks.items side.old.status_mask side.old.unclear) outside machine.new
-        (tape_of side.new.book.now.table side.new.shadow side.new.masks side.new.bits side.new.crossed
+        (tape_of (ruling_of side.new.book.now.table side.new.known) side.new.shadow side.new.masks side.new.bits side.new.crossed
         side.new.byte_masks.items side.new.status_mask side.new.unclear)) }
 {
     match turn {
@@ -151,9 +151,9 @@ pub(crate) fn make_turn(
     marked: &MarkedRegions,
     skip: &[u16],
 ) -> Result<Option<Outside>, NoMemory>
-    requires { IsReady marked.now.regions.items machine.old (tape_of side.old.book.now.table side.old.shadow
+    requires { IsReady marked.now.regions.items machine.old (tape_of (ruling_of side.old.book.now.table side.old.known) side.old.shadow
         side.old.masks side.old.bits side.old.crossed side.old.byte_masks.items side.old.status_mask side.old.unclear) }
-    ensures table { IfOk result (λ outside. side.new.book.now.table ≡ side.old.book.now.table) }
+    ensures ruling { IfOk result (λ outside. (ruling_of side.new.book.now.table side.new.known) ≡ (ruling_of side.old.book.now.table side.old.known)) }
     ensures base { IfOk result (λ outside. side.new.shadow.base ≡ machine.new.setting.base) }
     ensures longer { IfOk result (λ outside. Lengthens side.old.bits side.new.bits) }
     ensures setting { IfOk result (λ outside. machine.new.setting ≡ machine.old.setting) }
@@ -161,15 +161,15 @@ pub(crate) fn make_turn(
     ensures halts { IfOk result (λ outside. (range : TheOutside) → outside ≡ Some range →
         side.new.crossed ≡ side.old.crossed) }
     ensures ready { IfOk result (λ outside. outside ≡ None → side.new.unclear ≡ None →
-        IsReady marked.now.regions.items machine.new (tape_of side.new.book.now.table side.new.shadow side.new.masks
+        IsReady marked.now.regions.items machine.new (tape_of (ruling_of side.new.book.now.table side.new.known) side.new.shadow side.new.masks
         side.new.bits side.new.crossed side.new.byte_masks.items side.new.status_mask side.new.unclear)) }
     ensures makes { IfOk result (λ outside. (rules : Rules) (task : Task) (place : MaskedPlace) →
-        AnswerAs side.old.book.now.table rules →
+        AreRulesOf (ruling_of side.old.book.now.table side.old.known) rules →
         task.enclosures ≡ record { regions = marked.now.regions.items; skip = skip.now } →
-        HoldsPlace task.masks place machine.old (tape_of side.old.book.now.table side.old.shadow side.old.masks
+        HoldsPlace task.masks place machine.old (tape_of (ruling_of side.old.book.now.table side.old.known) side.old.shadow side.old.masks
         side.old.bits side.old.crossed side.old.byte_masks.items side.old.status_mask side.old.unclear) →
         MakesFed task.masks (masked_turn rules task place) side.old.bits outside machine.new
-        (tape_of side.new.book.now.table side.new.shadow side.new.masks side.new.bits side.new.crossed
+        (tape_of (ruling_of side.new.book.now.table side.new.known) side.new.shadow side.new.masks side.new.bits side.new.crossed
         side.new.byte_masks.items side.new.status_mask side.new.unclear)) }
 {
     let turn = marked.next_turn(machine);

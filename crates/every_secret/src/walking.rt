@@ -1,11 +1,14 @@
-ghost use Rattle.std.specs.Prelude.{◌≡◌, ◌≤◌, ℕ, IfOk, IsTrue, List as Seq, None, Some};
+ghost use Rattle.std.specs.Prelude.{◌≡◌, ◌≤◌, ℕ, IfOk, IsTrue, List as Seq, None, OnOk, Some};
 ghost use Rattle.flow_base.specs.Points.{is_slot, width_of};
 ghost use Rattle.rv32im_machine.specs.Language.{Passed, Walk};
-ghost use Rattle.rv32im_machine.specs.Playing.{AreSources, FitsAim, FitsSlot, Goes, IsAim, joins_bytes};
+ghost use Rattle.rv32im_machine.specs.Playing.{AreSources, FitsAim, FitsSlot, Goes, IsAim, IsPlace, IsSource, fits_place};
+ghost use Rattle.rv32im_machine.specs.Playing.{joins_bytes, moves_bits};
+ghost use Rattle.run_labels.specs.TurnLabels.{put_label};
 ghost use Rattle.tracked_run.specs.Labels.{labels_of};
-ghost use Rattle.every_secret.specs.Masked.{unclear_by_left, unclear_by_look};
-ghost use Rattle.every_secret.specs.Private.Tapes.{PlaysWalk, tape_of};
+ghost use Rattle.every_secret.specs.Masked.{label_moved, unclear_by_left, unclear_by_look};
+ghost use Rattle.every_secret.specs.Private.Tapes.{PlaysWalk, ruling_of, tape_of};
 
+use crate::public_inputs::{PublicInput, is_public_byte, public_mask};
 use crate::shown::shown_of;
 use crate::visits::{note_free, passing_mask, put_in};
 use crate::whys::UnclearWhy;
@@ -13,7 +16,7 @@ use crossing_bits::{Bits, bit_count};
 use flow_base::{NoMemory, Point, Slot};
 use masked_turns::{LeftBits, SecretLook, left_bits, secret_look, uncrossed};
 use replay_machine::LentVisits;
-use rv32im_machine::{Passer, Passing, Place, Seen, Shape, Source};
+use rv32im_machine::{Aim, Passer, Passing, Place, Seen, Shape, Source};
 use shadow_masks::Shadow;
 use tracked_run::{Held, labelled, note_move, note_restore, note_save, put_aimed};
 use transfer_rules::RuleBook;
@@ -41,6 +44,8 @@ pub(crate) struct Walking<'b> {
     /// The free bits of the exit status.
     pub status_mask: u8,
     pub book: &'b RuleBook,
+    /// What is known of the public input.
+    pub known: PublicInput,
     /// The masks of the operands of the turn.
     pub held: Held,
     /// The number of the region that the turn enters, 0: of none.
@@ -74,6 +79,36 @@ fn decided(left: Option<LeftBits>) -> Option<UnclearWhy>
     })
 }
 
+/// A value moves to a place, which gets the label of what moves there: a byte of the public input, by what is known of it,
+/// or another. The turn may be the skip of a region.
+/// `NoMemory` where there is not enough.
+fn note_moved(
+    shadow: &mut Shadow,
+    held: &mut Held,
+    known: PublicInput,
+    skipped: bool,
+    place: Place,
+    shape: Shape,
+    source: Source,
+) -> Result<(), NoMemory>
+    requires place { IsPlace (Some shadow.old.base) place }
+    requires source { IsSource (Some shadow.old.base) source }
+    requires moves { IsTrue (moves_bits shape) }
+    requires fits { IsTrue (fits_place place shape source) }
+    ensures base { shadow.new.base ≡ shadow.old.base }
+    ensures labels { OnOk result (labels_of shadow.new held.new ≡ put_label place
+        (label_moved known skipped (labels_of shadow.old held.old) place shape source)
+        (labels_of shadow.old held.old)) }
+{
+    if is_public_byte(place, source, skipped) {
+        let label = labelled(public_mask(known), NOWHERE);
+        put_aimed(shadow, held, Aim::Put(place), label)?;
+        return Ok(());
+    }
+    note_move(shadow, held, place, shape, source)?;
+    Ok(())
+}
+
 impl Walking<'_> {
     /// A value passes: its bits that cross and may differ are chosen or free, and its mask loses those that cross.
     /// `NoMemory` where there is not enough.
@@ -90,10 +125,10 @@ impl Walking<'_> {
         ensures width { IfOk result (λ other. other ≤ width_of passing.point.slot) }
         ensures goes { self.old.unclear ≡ None → (go : ℕ → Walk) → Goes result
             (λ other. PlaysWalk self.new.region self.new.skipped (labels_of self.new.shadow self.new.held)
-            (tape_of self.new.book.now.table self.new.shadow self.new.masks self.new.bits self.new.crossed
+            (tape_of (ruling_of self.new.book.now.table self.new.known) self.new.shadow self.new.masks self.new.bits self.new.crossed
             self.new.byte_masks.items self.new.status_mask self.new.unclear) (go other))
             (PlaysWalk self.old.region self.old.skipped (labels_of self.old.shadow self.old.held)
-            (tape_of self.old.book.now.table self.old.shadow self.old.masks self.old.bits self.old.crossed
+            (tape_of (ruling_of self.old.book.now.table self.old.known) self.old.shadow self.old.masks self.old.bits self.old.crossed
             self.old.byte_masks.items self.old.status_mask self.old.unclear) (Passed passing go)) }
     {
         let crossing = self.masks.next(passing.point);
@@ -122,13 +157,13 @@ impl Passer for Walking<'_> {
 
     ghost Tape = { Tape };
 
-    ghost tape = { λ side. tape_of side.book.now.table side.shadow side.masks side.bits side.crossed
+    ghost tape = { λ side. tape_of (ruling_of side.book.now.table side.known) side.shadow side.masks side.bits side.crossed
         side.byte_masks.items side.status_mask side.unclear };
 
     ghost memory = { λ side. Some side.shadow.base };
 
     ghost Plays = { λ side walk out. PlaysWalk side.region side.skipped (labels_of side.shadow side.held)
-        (tape_of side.book.now.table side.shadow side.masks side.bits side.crossed side.byte_masks.items
+        (tape_of (ruling_of side.book.now.table side.known) side.shadow side.masks side.bits side.crossed side.byte_masks.items
         side.status_mask side.unclear) walk out };
 
     #[inline(always)]
@@ -157,7 +192,17 @@ impl Passer for Walking<'_> {
         source: Source,
         _value: u32,
     ) -> Result<(), NoMemory> {
-        note_move(&mut self.shadow, &mut self.held, place, shape, source)?;
+        let known = self.known;
+        let skipped = self.skipped;
+        note_moved(
+            &mut self.shadow,
+            &mut self.held,
+            known,
+            skipped,
+            place,
+            shape,
+            source,
+        )?;
         Ok(())
     }
 
@@ -174,6 +219,6 @@ impl Passer for Walking<'_> {
     ghost at_end = { λ side state masks past ahead.
         masks_Ended (record { masks = masks; skipped = side.skipped }) side.region past
         (labels_of side.shadow side.held)
-        (tape_of side.book.now.table side.shadow side.masks side.bits side.crossed side.byte_masks.items
+        (tape_of (ruling_of side.book.now.table side.known) side.shadow side.masks side.bits side.crossed side.byte_masks.items
         side.status_mask side.unclear) state refl ahead };
 }

@@ -30,7 +30,7 @@ pub masks_Ended : (cutting : Cutting) (region : ℕ) (past : List Point) (labels
 unfolding EndsAt
 masks_Ended cutting region past labels tape state same ahead = record {
   ends = refl;
-  table = refl;
+  ruling = refl;
   longer = lengthens_none tape.stream;
   tells = λ rules answers. told rules tape.unclear refl;
 }

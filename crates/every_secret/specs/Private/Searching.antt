@@ -33,14 +33,14 @@ use Rattle.every_secret.specs.declared.verdicts.Bounded.{Bounded}
 use Rattle.every_secret.specs.Bounds.{Found, Halt, IsBounded, IsUnclear, counted, halt_of, judged, nothing_found, pattern_limit, size_of, summary_in, summary_of}
 use Rattle.every_secret.specs.Masked.{MaskedPlace}
 use Rattle.every_secret.specs.Paths.{Leaf, Opens, Path, Tree, paths_of}
-use Rattle.every_secret.specs.Rules.{AnswerAs, Rules}
+use Rattle.every_secret.specs.Rules.{Rules}
 use Rattle.every_secret.specs.States.{AllEndWithin}
 use Rattle.every_secret.specs.Ways.{GoesOn}
 use Rattle.every_secret.specs.Private.Folding.{FoldsTo, IsKnown, stops_in}
 use Rattle.every_secret.specs.Private.Orders.{earlier, past, under}
 use Rattle.every_secret.specs.Private.Spots.{EndsBy, Basis, LeadsTo, Spot, below_in, tree_in}
 use Rattle.every_secret.specs.Private.Sums.{no_paths, sum_of_came}
-use Rattle.every_secret.specs.Private.Tapes.{HoldsPlace, Tape}
+use Rattle.every_secret.specs.Private.Tapes.{AreRulesOf, HoldsPlace, Ruling, Tape}
 use Rattle.every_secret.specs.Private.Turning.{IsReady}
 use Rattle.every_secret.specs.Private.Walks.{end_of}
 
@@ -53,21 +53,21 @@ known_in findings = record {
   first_stop = option_map (λ stopped. halt_of stopped) findings.first_stop;
 }
 
--- by which table, in which regions, of which these are skipped, and within which limits a search walks
+-- by which rules, in which regions, of which these are skipped, and within which limits a search walks
 pub record Terms : Type 0 where
-  pub table : ℕ
+  pub ruling : Ruling
   pub regions : List Region
   pub skip : List ℕ
   pub budget : ℕ
   pub turns : ℕ
 
-abbrev pub terms_of : ℕ → List Region → List ℕ → ℕ → ℕ → Terms
-terms_of table regions skip budget turns =
-    record { table = table; regions = regions; skip = skip; budget = budget; turns = turns }
+abbrev pub terms_of : Ruling → List Region → List ℕ → ℕ → ℕ → Terms
+terms_of ruling regions skip budget turns =
+    record { ruling = ruling; regions = regions; skip = skip; budget = budget; turns = turns }
 
 -- the basis of a search
 pub record IsBasis (terms : Terms) (basis : Basis) : Type 0 where
-  pub answers : AnswerAs terms.table basis.rules
+  pub answers : AreRulesOf terms.ruling basis.rules
   pub enclosures : basis.task.enclosures ≡ record { regions = terms.regions; skip = terms.skip }
   pub limits : basis.limits ≡ record { budget = terms.budget; turns = terms.turns }
   pub small : terms.budget < 4294967295
@@ -95,7 +95,7 @@ pub record CanGoBack (terms : Terms) (search : Search) (tape : Tape) : Type 0 wh
   pub begins : search.opens.items ≡ first ∷ others
   pub at_start : first.depth ≡ 0
   pub same_length : length search.closed.states ≡ length search.closed.below.items
-  pub table : tape.table ≡ terms.table
+  pub ruling : tape.ruling ≡ terms.ruling
   pub base : tape.shades.base ≡ search.machine.setting.base
 
 -- it can make a turn
@@ -417,7 +417,7 @@ KeepsLimit is_last TooMany = is_last ≡ true
 KeepsLimit is_last (Goes left) = is_last ≡ false
 
 -- a walk at its start, by the base of guest memory and the points of the cut
-pub record IsFirstTape (table base : ℕ) (points : List CutPoint) (tape : Tape) : Type 0 where
+pub record IsFirstTape (ruling : Ruling) (base : ℕ) (points : List CutPoint) (tape : Tape) : Type 0 where
   pub labels : map_of tape.shades ≡ default_map
   pub base_is : tape.shades.base ≡ base
   pub ahead : IsAhead tape.ahead (MaskAt points) []
@@ -426,7 +426,7 @@ pub record IsFirstTape (table base : ℕ) (points : List CutPoint) (tape : Tape)
   pub crossed : tape.crossed ≡ 0
   pub byte_masks : tape.byte_masks ≡ []
   pub status_mask : tape.status_mask ≡ 0
-  pub table_is : tape.table ≡ table
+  pub ruling_is : tape.ruling ≡ ruling
   pub unclear : tape.unclear ≡ None
 
 -- a search that has no open place yet, of a machine at its start

@@ -14,6 +14,7 @@ use Rattle.shadow_masks.specs.Shades.{Shades}
 use Rattle.tracked_run.specs.Labels.{map_of}
 use Rattle.run_labels.specs.TurnLabels.{TurnLabels}
 use Rattle.masked_turns.specs.Clearing.{Cutting}
+use Rattle.every_secret.specs.declared.public_inputs.PublicInput.{PublicInput}
 use Rattle.every_secret.specs.declared.whys.UnclearWhy.{UnclearWhy}
 use Rattle.every_secret.specs.Masked.{MaskedPlace, Reached, Goes, Meets, Halts, masked}
 use Rattle.every_secret.specs.Rules.{Rules, AnswerAs}
@@ -28,10 +29,23 @@ EndsAt (Saved walk) state = EndsAt walk state
 EndsAt (Restored registers walk back) state = EndsAt back state
 EndsAt (Ended end) state = end ≡ state
 
--- the table of the book, the masks, the masks of the cut that are ahead, the string with how much of it is taken, what is
+-- the table of the book, and what is known of the public input
+pub record Ruling : Type 0 where
+  pub table : ℕ
+  pub public : PublicInput
+
+abbrev pub ruling_of : ℕ → PublicInput → Ruling
+ruling_of table public = record { table = table; public = public }
+
+-- the rules are those of the book's answers
+pub record AreRulesOf (ruling : Ruling) (rules : Rules) : Type 0 where
+  pub answers : AnswerAs ruling.table rules
+  pub public : rules.public ≡ ruling.public
+
+-- how masks are made, the masks, the masks of the cut that are ahead, the string with how much of it is taken, what is
 -- known of what has crossed, and what the walk has met, if it has
 pub record Tape : Type 0 where
-  pub table : ℕ
+  pub ruling : Ruling
   pub shades : Shades
   pub ahead : List CutPoint
   pub stream : Stream
@@ -87,9 +101,9 @@ TellsWalk (Some why) masks asker before state after = Rests why before after
 pub record EndsMasked (cutting : Cutting) (region : ℕ) (known : Knowledge) (before : Tape) (walk : Walk) (state : State)
     (after : Tape) : Type 0 where
   pub ends : EndsAt walk state
-  pub table : after.table ≡ before.table
+  pub ruling : after.ruling ≡ before.ruling
   pub longer : Lengthens before.stream after.stream
-  pub tells : (rules : Rules) → AnswerAs before.table rules →
+  pub tells : (rules : Rules) → AreRulesOf before.ruling rules →
       TellsWalk before.unclear cutting.masks (masked rules cutting region known walk) before state after
 
 -- of a turn that is stopped for lack of memory nothing is said
@@ -109,9 +123,9 @@ knowledge_of past labels tape = record {
 }
 
 -- the same of what a walk holds
-abbrev pub tape_of : ℕ → Shades → List CutPoint → Stream → ℕ → List ℕ → ℕ → Option UnclearWhy → Tape
-tape_of table shades ahead stream crossed byte_masks status_mask unclear = record {
-  table = table;
+abbrev pub tape_of : Ruling → Shades → List CutPoint → Stream → ℕ → List ℕ → ℕ → Option UnclearWhy → Tape
+tape_of ruling shades ahead stream crossed byte_masks status_mask unclear = record {
+  ruling = ruling;
   shades = shades;
   ahead = ahead;
   stream = stream;

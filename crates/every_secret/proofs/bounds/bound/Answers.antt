@@ -1,4 +1,4 @@
-use Rattle.std.proofs.Common.{◌∙◌, List, ap, subst}
+use Rattle.std.proofs.Common.{◌≡◌, ◌∙◌, ℕ, List, ap, subst}
 use Rattle.cut_file.specs.Pictures.{cut_picture}
 use Rattle.elf32_loader.specs.Images.{image_picture}
 use Rattle.enclosure_regions.specs.declared.region_lists.Regions.{Regions}
@@ -8,11 +8,13 @@ use Rattle.every_secret.specs.Bounds.{IsVerdict}
 use Rattle.every_secret.proofs.bounds.bound.Goals as goal
 
 pub returns-clause-answer : goal.returns-clause-answer
-returns-clause-answer g c = λ rules answers.
+returns-clause-answer g c = λ rules answers known.
     let regions = c.in_ok-marked.ensures in
     let copied = c.in_ok-copy_regions.ensures in
-    let found = c.in_ok-verdict.ensures rules answers c.in_ok-zeros.ensures.zeros c.in_ok-table.ensures in
-    let P : List Region → Type 0 = λ rs. IsVerdict rules
-    (task_of (image_picture c.args.image.now) c.args.public.now rs (cut_picture c.args.cut.now))
+    let found = c.in_ok-verdict.ensures rules (record { answers = answers; public = known })
+    c.in_ok-zeros.ensures.zeros c.in_ok-table.ensures in
+    let P : List ℕ → List Region → Type 0 = λ input rs. IsVerdict rules
+    (task_of (image_picture c.args.image.now) input rs (cut_picture c.args.cut.now))
     (record { budget = c.args.budget; turns = c.args.turns }) c.args.paths c.in_ok-verdict.verdict in
-    subst P (ap (λ (r : Regions). r.items) regions ∙ copied) found
+    subst (λ input. P input c.args.regions.now.items) c.seen_bytes-seen.ensures
+    (subst (λ rs. P c.seen_bytes-seen.result.now rs) (ap (λ (r : Regions). r.items) regions ∙ copied) found)

@@ -5,7 +5,7 @@ use Rattle.lockstep_replay.specs.Tasks.{task_of}
 use Rattle.replay_machine.specs.Visits.{SameAhead}
 use Rattle.rv32im_machine.specs.Start.{zeros}
 use Rattle.every_secret.specs.Private.Searching.{terms_of}
-use Rattle.every_secret.specs.Private.Tapes.{tape_of}
+use Rattle.every_secret.specs.Private.Tapes.{ruling_of, tape_of}
 use Rattle.every_secret.proofs.SearchedTree.{done_verdict, many_verdict, unclear_verdict, walk_next}
 use Rattle.every_secret.proofs.bounds.search_tree.Goals as goal
 
@@ -23,14 +23,14 @@ returns-in-Done g c = λ rules answers zeros_are same.
     let before = c.loop-made.side in
     let after = c.make_step.new.side in
     done_verdict
-    (terms_of walks.book.now.table walks.marked.now.regions.items walks.cut.now.skip walks.budget walks.turns)
+    (terms_of (ruling_of walks.book.now.table walks.known) walks.marked.now.regions.items walks.cut.now.skip walks.budget walks.turns)
     (task_of (image_picture walks.image.now) walks.public.now walks.marked.now.regions.items
     (cut_picture walks.cut.now)) c.requires.budget refl
     ((walks.zeros.now ≡ zeros walks.cut.now.secret_len) × SameAhead walks.table.now walks.cut.now.points) c.args.limit
     c.loop-made.made c.loop-made.left c.loop-made.search c.make_step.new.search
-    (tape_of before.book.now.table before.shadow before.masks before.bits before.crossed before.byte_masks.items
+    (tape_of (ruling_of before.book.now.table before.known) before.shadow before.masks before.bits before.crossed before.byte_masks.items
     before.status_mask before.unclear)
-    (tape_of after.book.now.table after.shadow after.masks after.bits after.crossed after.byte_masks.items
+    (tape_of (ruling_of after.book.now.table after.known) after.shadow after.masks after.bits after.crossed after.byte_masks.items
     after.status_mask after.unclear) c.loop-made.invariant c.in_ok-next.field-0 c.in_ok-bounded-in-Done.bounded
     c.in-Done.is c.in_ok-next.ensures.steps c.in_ok-bounded-in-Done.ensures rules answers (zeros_are, same)
 
@@ -40,14 +40,14 @@ loop-made-preserved g c =
     let before = c.loop-made.side in
     let after = c.make_step.new.side in
     walk_next
-    (terms_of walks.book.now.table walks.marked.now.regions.items walks.cut.now.skip walks.budget walks.turns)
+    (terms_of (ruling_of walks.book.now.table walks.known) walks.marked.now.regions.items walks.cut.now.skip walks.budget walks.turns)
     (task_of (image_picture walks.image.now) walks.public.now walks.marked.now.regions.items
     (cut_picture walks.cut.now)) c.requires.budget refl
     ((walks.zeros.now ≡ zeros walks.cut.now.secret_len) × SameAhead walks.table.now walks.cut.now.points) c.args.limit
     c.loop-made.made c.loop-made.left c.loop-made.search c.make_step.new.search
-    (tape_of before.book.now.table before.shadow before.masks before.bits before.crossed before.byte_masks.items
+    (tape_of (ruling_of before.book.now.table before.known) before.shadow before.masks before.bits before.crossed before.byte_masks.items
     before.status_mask before.unclear)
-    (tape_of after.book.now.table after.shadow after.masks after.bits after.crossed after.byte_masks.items
+    (tape_of (ruling_of after.book.now.table after.known) after.shadow after.masks after.bits after.crossed after.byte_masks.items
     after.status_mask after.unclear) c.loop-made.invariant c.in_ok-next.field-0 c.in-Goes.next c.in-Goes.is
     c.in_ok-next.ensures.safe c.in_ok-next.ensures.last c.in_ok-next.ensures.steps
 
@@ -57,14 +57,14 @@ returns-in-TooMany g c = λ rules answers zeros_are same.
     let before = c.loop-made.side in
     let after = c.make_step.new.side in
     many_verdict
-    (terms_of walks.book.now.table walks.marked.now.regions.items walks.cut.now.skip walks.budget walks.turns)
+    (terms_of (ruling_of walks.book.now.table walks.known) walks.marked.now.regions.items walks.cut.now.skip walks.budget walks.turns)
     (task_of (image_picture walks.image.now) walks.public.now walks.marked.now.regions.items
     (cut_picture walks.cut.now)) c.requires.budget refl
     ((walks.zeros.now ≡ zeros walks.cut.now.secret_len) × SameAhead walks.table.now walks.cut.now.points) c.args.limit
     c.loop-made.made c.loop-made.left c.loop-made.search c.make_step.new.search
-    (tape_of before.book.now.table before.shadow before.masks before.bits before.crossed before.byte_masks.items
+    (tape_of (ruling_of before.book.now.table before.known) before.shadow before.masks before.bits before.crossed before.byte_masks.items
     before.status_mask before.unclear)
-    (tape_of after.book.now.table after.shadow after.masks after.bits after.crossed after.byte_masks.items
+    (tape_of (ruling_of after.book.now.table after.known) after.shadow after.masks after.bits after.crossed after.byte_masks.items
     after.status_mask after.unclear) c.loop-made.invariant c.in_ok-next.field-0 c.string_of-path-in-TooMany.result
     c.in-TooMany.is c.in_ok-next.ensures.last c.in_ok-next.ensures.steps c.string_of-path-in-TooMany.ensures rules answers (zeros_are, same)
 
@@ -74,13 +74,13 @@ returns-in-Answered g c = λ rules answers zeros_are same.
     let before = c.loop-made.side in
     let after = c.make_step.new.side in
     unclear_verdict
-    (terms_of walks.book.now.table walks.marked.now.regions.items walks.cut.now.skip walks.budget walks.turns)
+    (terms_of (ruling_of walks.book.now.table walks.known) walks.marked.now.regions.items walks.cut.now.skip walks.budget walks.turns)
     (task_of (image_picture walks.image.now) walks.public.now walks.marked.now.regions.items
     (cut_picture walks.cut.now)) c.requires.budget refl
     ((walks.zeros.now ≡ zeros walks.cut.now.secret_len) × SameAhead walks.table.now walks.cut.now.points) c.args.limit
     c.loop-made.made c.loop-made.left c.loop-made.search c.make_step.new.search
-    (tape_of before.book.now.table before.shadow before.masks before.bits before.crossed before.byte_masks.items
+    (tape_of (ruling_of before.book.now.table before.known) before.shadow before.masks before.bits before.crossed before.byte_masks.items
     before.status_mask before.unclear)
-    (tape_of after.book.now.table after.shadow after.masks after.bits after.crossed after.byte_masks.items
+    (tape_of (ruling_of after.book.now.table after.known) after.shadow after.masks after.bits after.crossed after.byte_masks.items
     after.status_mask after.unclear) c.loop-made.invariant c.in_ok-next.field-0 c.string_of-path.result
     c.in-Answered.why c.in-Answered.is c.in_ok-next.ensures.steps c.string_of-path.ensures rules answers (zeros_are, same)

@@ -2,14 +2,14 @@ use Rattle.std.proofs.Common.{◌+◌, subst, sym, true}
 use Rattle.every_secret.specs.declared.judging.Judged.TheVariants as made
 use Rattle.every_secret.specs.declared.searching.Came.{Came}
 use Rattle.every_secret.specs.Private.Searching.{JudgesSo}
-use Rattle.every_secret.specs.Private.Tapes.{tape_of}
+use Rattle.every_secret.specs.Private.Tapes.{ruling_of, tape_of}
 use Rattle.every_secret.proofs.JudgedTrees.{met_judged}
 use Rattle.every_secret.proofs.judging.judge.Goals as goal
 
 pub returns-in-Met : goal.returns-in-Met
 returns-in-Met g c =
     let side = c.args.side.now in
-    let tape = tape_of side.book.now.table side.shadow side.masks side.bits side.crossed side.byte_masks.items
+    let tape = tape_of (ruling_of side.book.now.table side.known) side.shadow side.masks side.bits side.crossed side.byte_masks.items
     side.status_mask side.unclear in
     let arm = c.in-Met in
     let P : Came → Type 0 =

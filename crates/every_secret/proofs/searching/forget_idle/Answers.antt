@@ -1,6 +1,6 @@
 use Rattle.std.proofs.Common.{refl}
 use Rattle.every_secret.specs.Private.Searching.{terms_of}
-use Rattle.every_secret.specs.Private.Tapes.{tape_of}
+use Rattle.every_secret.specs.Private.Tapes.{ruling_of, tape_of}
 use Rattle.every_secret.proofs.ForgottenPlaces.{goes_on_forgotten, walks_forgotten}
 use Rattle.every_secret.proofs.searching.forget_idle.Goals as goal
 
@@ -10,7 +10,7 @@ returns-then-depth_of-depth-clause-safe g c =
     let side = c.args.side.now in
     let search = c.args.search.now in
     goes_on_forgotten
-    (terms_of walks.book.now.table walks.marked.now.regions.items walks.cut.now.skip walks.budget walks.turns) search
+    (terms_of (ruling_of walks.book.now.table walks.known) walks.marked.now.regions.items walks.cut.now.skip walks.budget walks.turns) search
     (record {
       machine = search.machine;
       opens = c.truncate.new.self;
@@ -18,7 +18,7 @@ returns-then-depth_of-depth-clause-safe g c =
       pieces = search.pieces;
       findings = search.findings;
     })
-    (tape_of side.book.now.table side.shadow side.masks side.bits side.crossed side.byte_masks.items side.status_mask
+    (tape_of (ruling_of side.book.now.table side.known) side.shadow side.masks side.bits side.crossed side.byte_masks.items side.status_mask
     side.unclear) c.args.before c.if-before-ge1.true refl refl refl c.truncate.ensures.items c.requires.safe
 
 pub returns-then-depth_of-depth-clause-goes : goal.returns-then-depth_of-depth-clause-goes
@@ -33,5 +33,5 @@ returns-then-depth_of-depth-clause-goes g c = λ basis left walking.
       pieces = search.pieces;
       findings = search.findings;
     })
-    (tape_of side.book.now.table side.shadow side.masks side.bits side.crossed side.byte_masks.items side.status_mask
+    (tape_of (ruling_of side.book.now.table side.known) side.shadow side.masks side.bits side.crossed side.byte_masks.items side.status_mask
     side.unclear) c.args.before refl refl refl refl c.truncate.ensures.items walking

@@ -5,7 +5,7 @@ use Rattle.lockstep_replay.specs.Tasks.{Limits}
 use Rattle.every_secret.specs.declared.open_places.OpenPlace.{OpenPlace}
 use Rattle.every_secret.specs.declared.sums.Sum.{Sum}
 use Rattle.every_secret.specs.Private.Searching.{CanReturn, NonePast, Terms, terms_of}
-use Rattle.every_secret.specs.Private.Tapes.{tape_of}
+use Rattle.every_secret.specs.Private.Tapes.{ruling_of, tape_of}
 use Rattle.every_secret.proofs.Lists.{each_appended, each_weaker}
 use Rattle.every_secret.proofs.LookedUp.{is_met, is_opened, opened_can_return, returns_grown}
 use Rattle.every_secret.proofs.searching.look_up.Goals as goal
@@ -15,7 +15,7 @@ returns-in-Some-clause-safe g c =
     let walks = c.args.walks in
     let side = c.args.side.now in
     let search = c.args.search.now in
-    let terms : Terms = terms_of walks.book.now.table walks.marked.now.regions.items walks.cut.now.skip walks.budget walks.turns in
+    let terms : Terms = terms_of (ruling_of walks.book.now.table walks.known) walks.marked.now.regions.items walks.cut.now.skip walks.budget walks.turns in
     let safe = c.requires.safe in
     let back = safe.back in record {
       back = record {
@@ -27,7 +27,7 @@ returns-in-Some-clause-safe g c =
         begins = back.begins;
         at_start = back.at_start;
         same_length = back.same_length;
-        table = back.table;
+        ruling = back.ruling;
         base = back.base;
       };
       ready = safe.ready;
@@ -39,8 +39,8 @@ pub returns-in-Some-clause-looks : goal.returns-in-Some-clause-looks
 returns-in-Some-clause-looks g c = λ basis is walking.
     let side = c.args.side.now in
     let walks = c.args.walks in
-    let terms : Terms = terms_of walks.book.now.table walks.marked.now.regions.items walks.cut.now.skip walks.budget walks.turns in
-    let tape = tape_of side.book.now.table side.shadow side.masks side.bits side.crossed side.byte_masks.items
+    let terms : Terms = terms_of (ruling_of walks.book.now.table walks.known) walks.marked.now.regions.items walks.cut.now.skip walks.budget walks.turns in
+    let tape = tape_of (ruling_of side.book.now.table side.known) side.shadow side.masks side.bits side.crossed side.byte_masks.items
     side.status_mask side.unclear in
     let none : NonePast tape.shades =
     record { registers = c.tell_registers.ensures.registers; kept = c.tell_registers.ensures.kept } in
@@ -61,7 +61,7 @@ returns-in_ok-put_last-in-None-clause-safe g c =
     let walks = c.args.walks in
     let side = c.args.side.now in
     let search = c.args.search.now in
-    let terms : Terms = terms_of walks.book.now.table walks.marked.now.regions.items walks.cut.now.skip walks.budget walks.turns in
+    let terms : Terms = terms_of (ruling_of walks.book.now.table walks.known) walks.marked.now.regions.items walks.cut.now.skip walks.budget walks.turns in
     let safe = c.requires.safe in
     let back = safe.back in
     let keeps : Keeps c.of.new.pieces c.in_ok-kept.kept search.machine side.shadow side.masks side.byte_masks.items
@@ -91,7 +91,7 @@ returns-in_ok-put_last-in-None-clause-safe g c =
         begins = c.in_ok-put_last-in-None.ensures ∙ ap (λ items. items ++ entry ∷ []) back.begins;
         at_start = back.at_start;
         same_length = back.same_length;
-        table = back.table;
+        ruling = back.ruling;
         base = back.base;
       };
       ready = safe.ready;
@@ -104,8 +104,8 @@ returns-in_ok-put_last-in-None-clause-looks g c = λ basis is walking.
     let side = c.args.side.now in
     let search = c.args.search.now in
     let walks = c.args.walks in
-    let terms : Terms = terms_of walks.book.now.table walks.marked.now.regions.items walks.cut.now.skip walks.budget walks.turns in
-    let tape = tape_of side.book.now.table side.shadow side.masks side.bits side.crossed side.byte_masks.items
+    let terms : Terms = terms_of (ruling_of walks.book.now.table walks.known) walks.marked.now.regions.items walks.cut.now.skip walks.budget walks.turns in
+    let tape = tape_of (ruling_of side.book.now.table side.known) side.shadow side.masks side.bits side.crossed side.byte_masks.items
     side.status_mask side.unclear in
     let none : NonePast tape.shades =
     record { registers = c.tell_registers.ensures.registers; kept = c.tell_registers.ensures.kept } in

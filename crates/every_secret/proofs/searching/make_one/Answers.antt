@@ -1,8 +1,7 @@
 use Rattle.std.proofs.Common.{◌≡◌, None, sym, ap, ◌∙◌, subst, arith}
 use Rattle.lockstep_replay.specs.Tasks.{Limits}
-use Rattle.every_secret.specs.Rules.{AnswerAs}
 use Rattle.every_secret.specs.Private.Searching.{terms_of}
-use Rattle.every_secret.specs.Private.Tapes.{tape_of}
+use Rattle.every_secret.specs.Private.Tapes.{AreRulesOf, ruling_of, tape_of}
 use Rattle.every_secret.specs.Private.Walks.{ending_after}
 use Rattle.every_secret.proofs.EarlierPaths.{same_before}
 use Rattle.every_secret.proofs.SearchTurns.{goes_back, goes_or_ends, none_within}
@@ -15,12 +14,12 @@ returns-clause-back g c =
     let new = c.make_turn.new.side in
     let walks = c.args.walks in
     goes_back
-    (terms_of walks.book.now.table walks.marked.now.regions.items walks.cut.now.skip walks.budget walks.turns)
+    (terms_of (ruling_of walks.book.now.table walks.known) walks.marked.now.regions.items walks.cut.now.skip walks.budget walks.turns)
     c.args.search.now c.make_turn.new.machine
-    (tape_of side.book.now.table side.shadow side.masks side.bits side.crossed side.byte_masks.items side.status_mask
+    (tape_of (ruling_of side.book.now.table side.known) side.shadow side.masks side.bits side.crossed side.byte_masks.items side.status_mask
     side.unclear)
-    (tape_of new.book.now.table new.shadow new.masks new.bits new.crossed new.byte_masks.items new.status_mask
-    new.unclear) c.in_ok-outside.ensures.setting c.in_ok-outside.ensures.secret c.in_ok-outside.ensures.table
+    (tape_of (ruling_of new.book.now.table new.known) new.shadow new.masks new.bits new.crossed new.byte_masks.items new.status_mask
+    new.unclear) c.in_ok-outside.ensures.setting c.in_ok-outside.ensures.secret c.in_ok-outside.ensures.ruling
     c.in_ok-outside.ensures.base c.requires.safe.back
 
 pub returns-clause-safe : goal.returns-clause-safe
@@ -31,7 +30,7 @@ returns-clause-safe g c = λ none.
     let limits : Limits = record { budget = walks.budget; turns = walks.turns } in
     let state = c.make_turn.new.machine in
     let outside = c.in_ok-outside.outside in
-    let tape = tape_of new.book.now.table new.shadow new.masks new.bits new.crossed new.byte_masks.items new.status_mask
+    let tape = tape_of (ruling_of new.book.now.table new.known) new.shadow new.masks new.bits new.crossed new.byte_masks.items new.status_mask
     new.unclear in
     let ends : ending_after outside tape.unclear state.control.mode walks.budget tape.crossed ≡ None =
     ap (λ mode. ending_after outside tape.unclear mode walks.budget tape.crossed) (sym c.mode-mode.ensures)
@@ -39,11 +38,11 @@ returns-clause-safe g c = λ none.
     let fine = none_after outside tape.unclear state.control.mode walks.budget tape.crossed ends in
     record {
       back = goes_back
-          (terms_of walks.book.now.table walks.marked.now.regions.items walks.cut.now.skip walks.budget walks.turns)
+          (terms_of (ruling_of walks.book.now.table walks.known) walks.marked.now.regions.items walks.cut.now.skip walks.budget walks.turns)
           c.args.search.now state
-          (tape_of side.book.now.table side.shadow side.masks side.bits side.crossed side.byte_masks.items
+          (tape_of (ruling_of side.book.now.table side.known) side.shadow side.masks side.bits side.crossed side.byte_masks.items
           side.status_mask side.unclear) tape c.in_ok-outside.ensures.setting c.in_ok-outside.ensures.secret
-          c.in_ok-outside.ensures.table c.in_ok-outside.ensures.base c.requires.safe.back;
+          c.in_ok-outside.ensures.ruling c.in_ok-outside.ensures.base c.requires.safe.back;
       ready = c.in_ok-outside.ensures.ready fine.0 fine.1;
       crossed = (none_within limits outside state tape ends).1;
       within = c.in_ok-outside.ensures.longer.within c.requires.safe.within;
@@ -56,9 +55,9 @@ returns-clause-goes g c = λ basis left is walking.
     let walks = c.args.walks in
     let state = c.make_turn.new.machine in
     let outside = c.in_ok-outside.outside in
-    let before = tape_of side.book.now.table side.shadow side.masks side.bits side.crossed side.byte_masks.items
+    let before = tape_of (ruling_of side.book.now.table side.known) side.shadow side.masks side.bits side.crossed side.byte_masks.items
     side.status_mask side.unclear in
-    let after = tape_of new.book.now.table new.shadow new.masks new.bits new.crossed new.byte_masks.items
+    let after = tape_of (ruling_of new.book.now.table new.known) new.shadow new.masks new.bits new.crossed new.byte_masks.items
     new.status_mask new.unclear in
     let budget : basis.limits.budget ≡ walks.budget = ap (λ (l : Limits). l.budget) is.limits in
     let small = is.small in
@@ -75,7 +74,7 @@ returns-clause-goes g c = λ basis left is walking.
     c.in_ok-outside.ensures.setting c.in_ok-outside.ensures.secret c.in_ok-outside.ensures.longer
     c.requires.safe.within c.in_ok-outside.ensures.halts left walking
     (c.in_ok-outside.ensures.makes basis.rules basis.task walking.now
-    (subst (λ t. AnswerAs t basis.rules) (sym c.requires.safe.back.table) is.answers)
+    (subst (λ t. AreRulesOf t basis.rules) (sym c.requires.safe.back.ruling) is.answers)
     enclosures walking.holds) c.ended-ending.result ends
 
 pub returns-clause-early : goal.returns-clause-early

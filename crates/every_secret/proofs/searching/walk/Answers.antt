@@ -3,7 +3,7 @@ use Rattle.std.proofs.lemmas.Result.{IfOk-weaker}
 use Rattle.every_secret.specs.Private.Orders.{SameBefore}
 use Rattle.every_secret.specs.Private.Searching.{GoesOrEnds, IsCome, IsBasis, IsWalking, terms_of}
 use Rattle.every_secret.specs.Private.Spots.{Basis}
-use Rattle.every_secret.specs.Private.Tapes.{Tape, tape_of}
+use Rattle.every_secret.specs.Private.Tapes.{Tape, ruling_of, tape_of}
 use Rattle.every_secret.proofs.searching.walk.Goals as goal
 
 one_left : (left : ℕ) → 1 ≤ left → left ≡ suc (left - 1)
@@ -15,24 +15,24 @@ returns-in-Some-clause-comes g c = λ basis is walking.
     let later = c.make_one.new.side in
     let some = c.if-left-eq0.false in
     let now = subst (λ n. IsWalking basis n c.args.search.now
-    (tape_of side.book.now.table side.shadow side.masks side.bits side.crossed side.byte_masks.items side.status_mask
+    (tape_of (ruling_of side.book.now.table side.known) side.shadow side.masks side.bits side.crossed side.byte_masks.items side.status_mask
     side.unclear)) (one_left c.args.left (omega (arith, some))) walking in
     subst (λ ends. GoesOrEnds basis (c.args.left - 1) ends c.make_one.new.search
-    (tape_of later.book.now.table later.shadow later.masks later.bits later.crossed later.byte_masks.items
+    (tape_of (ruling_of later.book.now.table later.known) later.shadow later.masks later.bits later.crossed later.byte_masks.items
     later.status_mask later.unclear)) c.in-Some.is (c.in_ok-ending.ensures.goes basis (c.args.left - 1) is now)
 
 pub returns-clause-comes : goal.returns-clause-comes
 returns-clause-comes g c =
     let walks = c.args.walks in
-    let terms = terms_of walks.book.now.table walks.marked.now.regions.items walks.cut.now.skip walks.budget walks.turns in
+    let terms = terms_of (ruling_of walks.book.now.table walks.known) walks.marked.now.regions.items walks.cut.now.skip walks.budget walks.turns in
     let side = c.args.side.now in
-    let tape : Tape = tape_of side.book.now.table side.shadow side.masks side.bits side.crossed side.byte_masks.items
+    let tape : Tape = tape_of (ruling_of side.book.now.table side.known) side.shadow side.masks side.bits side.crossed side.byte_masks.items
     side.status_mask side.unclear in
     let made = c.make_one.new.side in
-    let next : Tape = tape_of made.book.now.table made.shadow made.masks made.bits made.crossed made.byte_masks.items
+    let next : Tape = tape_of (ruling_of made.book.now.table made.known) made.shadow made.masks made.bits made.crossed made.byte_masks.items
     made.status_mask made.unclear in
     let later = c.walk_on.new.side in
-    let last : Tape = tape_of later.book.now.table later.shadow later.masks later.bits later.crossed later.byte_masks.items
+    let last : Tape = tape_of (ruling_of later.book.now.table later.known) later.shadow later.masks later.bits later.crossed later.byte_masks.items
     later.status_mask later.unclear in
     let some = c.if-left-eq0.false in
     IfOk-weaker c.walk_on.result

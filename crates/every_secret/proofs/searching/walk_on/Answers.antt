@@ -1,6 +1,6 @@
 use Rattle.std.proofs.Common.{◌≡◌, ◌≤◌, ◌<◌, ◌+◌, ◌-◌, ℕ, suc, arith, subst, ◌∙◌}
 use Rattle.every_secret.specs.Private.Searching.{GoesOrComes, IsWalking}
-use Rattle.every_secret.specs.Private.Tapes.{tape_of}
+use Rattle.every_secret.specs.Private.Tapes.{ruling_of, tape_of}
 use Rattle.every_secret.proofs.searching.walk_on.Goals as goal
 
 one_left : (left made : ℕ) → made < left → left - made ≡ suc (left - made - 1)
@@ -18,11 +18,11 @@ returns-in-Some-clause-comes g c = λ basis is walking.
     let later = c.go_on.new.side in
     let less = c.loop-made-test.true in
     let now = subst (λ n. IsWalking basis n c.loop-made.search
-    (tape_of side.book.now.table side.shadow side.masks side.bits side.crossed side.byte_masks.items side.status_mask
+    (tape_of (ruling_of side.book.now.table side.known) side.shadow side.masks side.bits side.crossed side.byte_masks.items side.status_mask
     side.unclear)) (one_left c.args.left c.loop-made.made (omega (arith, less)))
     (c.loop-made.invariant.walks basis is walking) in
     subst (λ came. GoesOrComes basis (c.args.left - c.loop-made.made - 1) came c.go_on.new.search
-    (tape_of later.book.now.table later.shadow later.masks later.bits later.crossed later.byte_masks.items
+    (tape_of (ruling_of later.book.now.table later.known) later.shadow later.masks later.bits later.crossed later.byte_masks.items
     later.status_mask later.unclear)) c.in-Some.is (c.in_ok-came.ensures.goes basis is now)
 
 pub loop-made-preserved : goal.loop-made-preserved
@@ -34,13 +34,13 @@ loop-made-preserved g c = record {
       let later = c.go_on.new.side in
       let less = c.loop-made-test.true in
       let now = subst (λ n. IsWalking basis n c.loop-made.search
-      (tape_of side.book.now.table side.shadow side.masks side.bits side.crossed side.byte_masks.items side.status_mask
+      (tape_of (ruling_of side.book.now.table side.known) side.shadow side.masks side.bits side.crossed side.byte_masks.items side.status_mask
       side.unclear)) (one_left c.args.left c.loop-made.made (omega (arith, less)))
       (c.loop-made.invariant.walks basis is walking) in
-      subst (λ n. IsWalking basis n c.go_on.new.search (tape_of later.book.now.table later.shadow later.masks later.bits
+      subst (λ n. IsWalking basis n c.go_on.new.search (tape_of (ruling_of later.book.now.table later.known) later.shadow later.masks later.bits
       later.crossed later.byte_masks.items later.status_mask later.unclear)) (one_made c.args.left c.loop-made.made)
       (subst (λ came. GoesOrComes basis (c.args.left - c.loop-made.made - 1) came c.go_on.new.search
-      (tape_of later.book.now.table later.shadow later.masks later.bits later.crossed later.byte_masks.items
+      (tape_of (ruling_of later.book.now.table later.known) later.shadow later.masks later.bits later.crossed later.byte_masks.items
       later.status_mask later.unclear)) c.in_default.is (c.in_ok-came.ensures.goes basis is now));
 }
 
@@ -49,7 +49,7 @@ returns-clause-comes g c = λ basis is walking.
     let side = c.loop-made.side in
     let all = c.loop-made-test.false in
     c.late.ensures.comes basis is (subst (λ n. IsWalking basis n c.loop-made.search
-    (tape_of side.book.now.table side.shadow side.masks side.bits side.crossed side.byte_masks.items side.status_mask
+    (tape_of (ruling_of side.book.now.table side.known) side.shadow side.masks side.bits side.crossed side.byte_masks.items side.status_mask
     side.unclear)) (none_left c.args.left c.loop-made.made (omega (arith, all)))
     (c.loop-made.invariant.walks basis is walking))
 

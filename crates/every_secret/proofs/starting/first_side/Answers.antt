@@ -12,6 +12,6 @@ returns g c = record {
   crossed = refl;
   byte_masks = c.new-3.ensures.items;
   status_mask = refl;
-  table_is = refl;
+  ruling_is = refl;
   unclear = refl;
 }

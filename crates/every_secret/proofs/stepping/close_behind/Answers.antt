@@ -3,7 +3,7 @@ use Rattle.std.proofs.lemmas.List.{take-append-le}
 use Rattle.every_secret.specs.declared.open_places.OpenPlace.{OpenPlace}
 use Rattle.every_secret.specs.Private.Closing.{ClosesOpen}
 use Rattle.every_secret.specs.Private.Searching.{Terms, terms_of}
-use Rattle.every_secret.specs.Private.Tapes.{Tape, tape_of}
+use Rattle.every_secret.specs.Private.Tapes.{Tape, ruling_of, tape_of}
 use Rattle.every_secret.proofs.ClosedBehind.{settled_before, back_before}
 use Rattle.every_secret.proofs.stepping.close_behind.Goals as goal
 
@@ -16,9 +16,9 @@ taken_front keep before opens was last parts more same =
 
 pub loop-search-preserved-in-Continue-1 : goal.loop-search-preserved-in-Continue-1
 loop-search-preserved-in-Continue-1 g c =
-    let terms : Terms = terms_of c.args.walks.book.now.table c.args.walks.marked.now.regions.items
+    let terms : Terms = terms_of (ruling_of c.args.walks.book.now.table c.args.walks.known) c.args.walks.marked.now.regions.items
     c.args.walks.cut.now.skip c.args.walks.budget c.args.walks.turns in
-    let tape : Tape = tape_of c.args.side.now.book.now.table c.args.side.now.shadow c.args.side.now.masks
+    let tape : Tape = tape_of (ruling_of c.args.side.now.book.now.table c.args.side.now.known) c.args.side.now.shadow c.args.side.now.masks
     c.args.side.now.bits c.args.side.now.crossed c.args.side.now.byte_masks.items c.args.side.now.status_mask
     c.args.side.now.unclear in
     let before = c.loop-search.search in
@@ -40,7 +40,7 @@ loop-search-preserved-in-Continue-1 g c =
         begins = begins.begins;
         at_start = back.at_start;
         same_length = next.2;
-        table = back.table;
+        ruling = back.ruling;
         base = back.base;
       };
       opens = taken_front c.args.keep before.opens.items opens c.args.search.now.opens.items last parts more

@@ -4,7 +4,7 @@ use Rattle.every_secret.specs.declared.open_places.OpenPlace.{OpenPlace}
 use Rattle.every_secret.specs.Paths.{Opens}
 use Rattle.every_secret.specs.Private.Searching.{IsDeep, IsSearched, NonePast, Terms, terms_of}
 use Rattle.every_secret.specs.Private.Spots.{tree_in}
-use Rattle.every_secret.specs.Private.Tapes.{Tape, tape_of}
+use Rattle.every_secret.specs.Private.Tapes.{Tape, ruling_of, tape_of}
 use Rattle.every_secret.proofs.GoneBack.{LastOf, goes_on_back, last_of, of_last, small_budget, walks_back}
 use Rattle.every_secret.proofs.stepping.go_back.Goals as goal
 
@@ -15,11 +15,11 @@ returns-clause-safe g c =
     let search = c.args.search.now in
     let last : OpenPlace = c.in-Some.last.now in
     let machine = c.put_back.new.machine in
-    let terms : Terms = terms_of walks.book.now.table walks.marked.now.regions.items walks.cut.now.skip walks.budget
+    let terms : Terms = terms_of (ruling_of walks.book.now.table walks.known) walks.marked.now.regions.items walks.cut.now.skip walks.budget
     walks.turns in
-    let before : Tape = tape_of side.book.now.table side.shadow side.masks side.bits side.crossed side.byte_masks.items
+    let before : Tape = tape_of (ruling_of side.book.now.table side.known) side.shadow side.masks side.bits side.crossed side.byte_masks.items
     side.status_mask side.unclear in
-    let tape : Tape = tape_of side.book.now.table c.put_back.new.shadow c.in_ok-masks.masks c.skip.new.bits last.crossed
+    let tape : Tape = tape_of (ruling_of side.book.now.table side.known) c.put_back.new.shadow c.in_ok-masks.masks c.skip.new.bits last.crossed
     c.in_ok-masks.byte_masks.items c.status_mask-side.result None in
     let is_last : LastOf search.opens.items last = last_of search.opens.items c.deref.result.now last
     c.deref.ensures.value c.in-Some.ensures.item.3.0 (c.in-Some.ensures.item.3.1 last) in
@@ -41,9 +41,9 @@ returns-clause-walks g c = λ basis is searched opens.
     let search = c.args.search.now in
     let last : OpenPlace = c.in-Some.last.now in
     let machine = c.put_back.new.machine in
-    let terms : Terms = terms_of walks.book.now.table walks.marked.now.regions.items walks.cut.now.skip walks.budget
+    let terms : Terms = terms_of (ruling_of walks.book.now.table walks.known) walks.marked.now.regions.items walks.cut.now.skip walks.budget
     walks.turns in
-    let tape : Tape = tape_of side.book.now.table c.put_back.new.shadow c.in_ok-masks.masks c.skip.new.bits last.crossed
+    let tape : Tape = tape_of (ruling_of side.book.now.table side.known) c.put_back.new.shadow c.in_ok-masks.masks c.skip.new.bits last.crossed
     c.in_ok-masks.byte_masks.items c.status_mask-side.result None in
     let is_last : LastOf search.opens.items last = last_of search.opens.items c.deref.result.now last
     c.deref.ensures.value c.in-Some.ensures.item.3.0 (c.in-Some.ensures.item.3.1 last) in

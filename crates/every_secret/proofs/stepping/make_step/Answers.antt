@@ -5,7 +5,7 @@ use Rattle.every_secret.specs.Paths.{Path}
 use Rattle.every_secret.specs.Private.Orders.{earlier}
 use Rattle.every_secret.specs.Private.Searching.{IsAdded, IsBasis, IsJudged, IsSumOf, IsWalking, StepsTo, Terms, terms_of}
 use Rattle.every_secret.specs.Private.Spots.{Basis, tree_in}
-use Rattle.every_secret.specs.Private.Tapes.{Tape, tape_of}
+use Rattle.every_secret.specs.Private.Tapes.{Tape, ruling_of, tape_of}
 use Rattle.every_secret.proofs.AddedTrees.{back_added, come_judged, is_added}
 use Rattle.every_secret.proofs.stepping.make_step.Goals as goal
 
@@ -15,7 +15,7 @@ settle-requires g c =
     let side = c.walk.new.side in
     let search = c.walk.new.search in record {
       back = back_added
-          (terms_of walks.book.now.table walks.marked.now.regions.items walks.cut.now.skip walks.budget walks.turns)
+          (terms_of (ruling_of walks.book.now.table walks.known) walks.marked.now.regions.items walks.cut.now.skip walks.budget walks.turns)
           search
           (record {
             machine = search.machine;
@@ -24,7 +24,7 @@ settle-requires g c =
             pieces = search.pieces;
             findings = c.judge.new.findings;
           })
-          (tape_of side.book.now.table side.shadow side.masks side.bits side.crossed side.byte_masks.items
+          (tape_of (ruling_of side.book.now.table side.known) side.shadow side.masks side.bits side.crossed side.byte_masks.items
           side.status_mask side.unclear) c.in-Add.sum refl refl refl c.add_to_all.ensures c.in_ok-came.ensures.back;
     }
 
@@ -36,23 +36,23 @@ returns-in-Unclear-clause-steps g c = λ basis is walking.
     subst (λ made. IsJudged basis side.bits.bits come.tree c.walk.new.search.findings c.judge.new.findings made)
     c.in-Unclear.is
     (come_judged
-    (terms_of walks.book.now.table walks.marked.now.regions.items walks.cut.now.skip walks.budget walks.turns) basis
+    (terms_of (ruling_of walks.book.now.table walks.known) walks.marked.now.regions.items walks.cut.now.skip walks.budget walks.turns) basis
     c.in_ok-came.came c.walk.new.search
-    (tape_of side.book.now.table side.shadow side.masks side.bits side.crossed side.byte_masks.items side.status_mask
+    (tape_of (ruling_of side.book.now.table side.known) side.shadow side.masks side.bits side.crossed side.byte_masks.items side.status_mask
     side.unclear) c.judge.new.findings c.in_ok-why.field-0 c.in_ok-came.ensures.back come c.in_ok-why.ensures)
 
 pub returns-in-Add-clause-steps : goal.returns-in-Add-clause-steps
 returns-in-Add-clause-steps g c =
     let walks = c.args.walks in
-    let terms : Terms = terms_of walks.book.now.table walks.marked.now.regions.items walks.cut.now.skip walks.budget walks.turns in
+    let terms : Terms = terms_of (ruling_of walks.book.now.table walks.known) walks.marked.now.regions.items walks.cut.now.skip walks.budget walks.turns in
     let old = c.args.side.now in
-    let before : Tape = tape_of old.book.now.table old.shadow old.masks old.bits old.crossed old.byte_masks.items
+    let before : Tape = tape_of (ruling_of old.book.now.table old.known) old.shadow old.masks old.bits old.crossed old.byte_masks.items
     old.status_mask old.unclear in
     let side = c.walk.new.side in
-    let tape : Tape = tape_of side.book.now.table side.shadow side.masks side.bits side.crossed side.byte_masks.items
+    let tape : Tape = tape_of (ruling_of side.book.now.table side.known) side.shadow side.masks side.bits side.crossed side.byte_masks.items
     side.status_mask side.unclear in
     let later = c.settle.new.side in
-    let last : Tape = tape_of later.book.now.table later.shadow later.masks later.bits later.crossed later.byte_masks.items
+    let last : Tape = tape_of (ruling_of later.book.now.table later.known) later.shadow later.masks later.bits later.crossed later.byte_masks.items
     later.status_mask later.unclear in
     let search = c.walk.new.search in
     let next : Search = record {

@@ -3,7 +3,7 @@ use Rattle.every_secret.specs.Paths.{next_string}
 use Rattle.every_secret.specs.Private.Orders.{earlier}
 use Rattle.every_secret.specs.Private.Searching.{Terms, terms_of, turned_at}
 use Rattle.every_secret.specs.Private.Spots.{tree_in}
-use Rattle.every_secret.specs.Private.Tapes.{Tape, tape_of}
+use Rattle.every_secret.specs.Private.Tapes.{Tape, ruling_of, tape_of}
 use Rattle.every_secret.proofs.SteppedSearches.{added_whole, all_done, is_next, settles_next}
 use Rattle.every_secret.proofs.stepping.settle.Goals as goal
 
@@ -17,9 +17,9 @@ none_is read bits same is = subst (λ s. next_string s ≡ None) same (sym is)
 
 pub returns-in-None-clause-steps : goal.returns-in-None-clause-steps
 returns-in-None-clause-steps g c =
-    let terms : Terms = terms_of c.args.walks.book.now.table c.args.walks.marked.now.regions.items
+    let terms : Terms = terms_of (ruling_of c.args.walks.book.now.table c.args.walks.known) c.args.walks.marked.now.regions.items
     c.args.walks.cut.now.skip c.args.walks.budget c.args.walks.turns in
-    let tape : Tape = tape_of c.args.side.now.book.now.table c.args.side.now.shadow c.args.side.now.masks
+    let tape : Tape = tape_of (ruling_of c.args.side.now.book.now.table c.args.side.now.known) c.args.side.now.shadow c.args.side.now.masks
     c.args.side.now.bits c.args.side.now.crossed c.args.side.now.byte_masks.items c.args.side.now.status_mask
     c.args.side.now.unclear in
     let back = c.requires.back in
@@ -30,9 +30,9 @@ returns-in-None-clause-steps g c =
 
 pub returns-in-Some-clause-steps : goal.returns-in-Some-clause-steps
 returns-in-Some-clause-steps g c =
-    let terms : Terms = terms_of c.args.walks.book.now.table c.args.walks.marked.now.regions.items
+    let terms : Terms = terms_of (ruling_of c.args.walks.book.now.table c.args.walks.known) c.args.walks.marked.now.regions.items
     c.args.walks.cut.now.skip c.args.walks.budget c.args.walks.turns in
-    let tape : Tape = tape_of c.args.side.now.book.now.table c.args.side.now.shadow c.args.side.now.masks
+    let tape : Tape = tape_of (ruling_of c.args.side.now.book.now.table c.args.side.now.known) c.args.side.now.shadow c.args.side.now.masks
     c.args.side.now.bits c.args.side.now.crossed c.args.side.now.byte_masks.items c.args.side.now.status_mask
     c.args.side.now.unclear in
     let back = c.requires.back in
@@ -46,9 +46,9 @@ returns-in-Some-clause-steps g c =
 
 pub returns-in_ok-left-in-Some-2-clause-steps : goal.returns-in_ok-left-in-Some-2-clause-steps
 returns-in_ok-left-in-Some-2-clause-steps g c =
-    let terms : Terms = terms_of c.args.walks.book.now.table c.args.walks.marked.now.regions.items
+    let terms : Terms = terms_of (ruling_of c.args.walks.book.now.table c.args.walks.known) c.args.walks.marked.now.regions.items
     c.args.walks.cut.now.skip c.args.walks.budget c.args.walks.turns in
-    let tape : Tape = tape_of c.args.side.now.book.now.table c.args.side.now.shadow c.args.side.now.masks
+    let tape : Tape = tape_of (ruling_of c.args.side.now.book.now.table c.args.side.now.known) c.args.side.now.shadow c.args.side.now.masks
     c.args.side.now.bits c.args.side.now.crossed c.args.side.now.byte_masks.items c.args.side.now.status_mask
     c.args.side.now.unclear in
     let back = c.requires.back in

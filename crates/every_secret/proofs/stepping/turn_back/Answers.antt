@@ -5,7 +5,7 @@ use Rattle.every_secret.specs.declared.open_places.OpenPlace.{OpenPlace}
 use Rattle.every_secret.specs.Paths.{Opens}
 use Rattle.every_secret.specs.Private.Searching.{IsDeep, IsSearched, turned_at}
 use Rattle.every_secret.specs.Private.Spots.{tree_in}
-use Rattle.every_secret.specs.Private.Tapes.{Tape, tape_of}
+use Rattle.every_secret.specs.Private.Tapes.{Tape, ruling_of, tape_of}
 use Rattle.every_secret.proofs.SteppedSearches.{deep_next, searched_next}
 use Rattle.every_secret.proofs.stepping.turn_back.Goals as goal
 
@@ -42,7 +42,7 @@ go_back-requires-clause-deep g c =
 
 pub returns-clause-walks : goal.returns-clause-walks
 returns-clause-walks g c =
-    let tape : Tape = tape_of c.args.side.now.book.now.table c.args.side.now.shadow c.args.side.now.masks
+    let tape : Tape = tape_of (ruling_of c.args.side.now.book.now.table c.args.side.now.known) c.args.side.now.shadow c.args.side.now.masks
     c.args.side.now.bits c.args.side.now.crossed c.args.side.now.byte_masks.items c.args.side.now.status_mask
     c.args.side.now.unclear in
     let turn = c.args.turn in

@@ -3,23 +3,23 @@ use Rattle.region_machine.specs.Enclosures.{Enclosures}
 use Rattle.region_machine.specs.Within.{seen}
 use Rattle.replay_machine.specs.ReplayTurns.{kind_outside_range}
 use Rattle.tracked_run.specs.Labels.{map_of}
-use Rattle.every_secret.specs.Private.Tapes.{tape_of}
+use Rattle.every_secret.specs.Private.Tapes.{ruling_of, tape_of}
 use Rattle.every_secret.specs.Turns.{secret_base_of}
-use Rattle.every_secret.proofs.MadeTurns.{kind-halts, kind-longer, kind-ready, kind-stays, kind-table}
+use Rattle.every_secret.proofs.MadeTurns.{kind-halts, kind-longer, kind-ready, kind-stays, kind_ruling}
 use Rattle.every_secret.proofs.MadeTurns.{turn_makes}
 use Rattle.every_secret.proofs.turns.make_turn.Goals as goal
 
-pub returns-clause-table : goal.returns-clause-table
-returns-clause-table g c =
+pub returns-clause-ruling : goal.returns-clause-ruling
+returns-clause-ruling g c =
     let side = c.args.side.now in
     let new = c.make_kind.new.side in
     let machine = c.args.machine.now in
     let enclosures : Enclosures = record { regions = c.args.marked.now.regions.items; skip = c.args.skip.now } in
     let kind = seen c.next_turn-turn.result in
-    kind-table enclosures kind c.entered_number-side.result c.skips-side.result c.none-side.result machine
-    (tape_of side.book.now.table side.shadow side.masks side.bits side.crossed side.byte_masks.items side.status_mask
+    kind_ruling enclosures kind c.entered_number-side.result c.skips-side.result c.none-side.result machine
+    (tape_of (ruling_of side.book.now.table side.known) side.shadow side.masks side.bits side.crossed side.byte_masks.items side.status_mask
     side.unclear) c.in_ok-outside.outside c.make_kind.new.machine
-    (tape_of new.book.now.table new.shadow new.masks new.bits new.crossed new.byte_masks.items new.status_mask
+    (tape_of (ruling_of new.book.now.table new.known) new.shadow new.masks new.bits new.crossed new.byte_masks.items new.status_mask
     new.unclear) (secret_base_of kind (map_of side.shadow)) (kind_outside_range kind machine)
     (c.in_ok-outside.ensures.makes enclosures.regions)
 
@@ -31,9 +31,9 @@ returns-clause-longer g c =
     let enclosures : Enclosures = record { regions = c.args.marked.now.regions.items; skip = c.args.skip.now } in
     let kind = seen c.next_turn-turn.result in
     kind-longer enclosures kind c.entered_number-side.result c.skips-side.result c.none-side.result machine
-    (tape_of side.book.now.table side.shadow side.masks side.bits side.crossed side.byte_masks.items side.status_mask
+    (tape_of (ruling_of side.book.now.table side.known) side.shadow side.masks side.bits side.crossed side.byte_masks.items side.status_mask
     side.unclear) c.in_ok-outside.outside c.make_kind.new.machine
-    (tape_of new.book.now.table new.shadow new.masks new.bits new.crossed new.byte_masks.items new.status_mask
+    (tape_of (ruling_of new.book.now.table new.known) new.shadow new.masks new.bits new.crossed new.byte_masks.items new.status_mask
     new.unclear) (secret_base_of kind (map_of side.shadow)) (kind_outside_range kind machine)
     (c.in_ok-outside.ensures.makes enclosures.regions)
 
@@ -45,9 +45,9 @@ returns-clause-setting g c =
     let enclosures : Enclosures = record { regions = c.args.marked.now.regions.items; skip = c.args.skip.now } in
     let kind = seen c.next_turn-turn.result in
     (kind-stays enclosures kind c.entered_number-side.result c.skips-side.result c.none-side.result machine
-    (tape_of side.book.now.table side.shadow side.masks side.bits side.crossed side.byte_masks.items side.status_mask
+    (tape_of (ruling_of side.book.now.table side.known) side.shadow side.masks side.bits side.crossed side.byte_masks.items side.status_mask
     side.unclear) c.in_ok-outside.outside c.make_kind.new.machine
-    (tape_of new.book.now.table new.shadow new.masks new.bits new.crossed new.byte_masks.items new.status_mask
+    (tape_of (ruling_of new.book.now.table new.known) new.shadow new.masks new.bits new.crossed new.byte_masks.items new.status_mask
     new.unclear) (secret_base_of kind (map_of side.shadow)) (kind_outside_range kind machine)
     (c.in_ok-outside.ensures.makes enclosures.regions)).0
 
@@ -59,9 +59,9 @@ returns-clause-secret g c =
     let enclosures : Enclosures = record { regions = c.args.marked.now.regions.items; skip = c.args.skip.now } in
     let kind = seen c.next_turn-turn.result in
     (kind-stays enclosures kind c.entered_number-side.result c.skips-side.result c.none-side.result machine
-    (tape_of side.book.now.table side.shadow side.masks side.bits side.crossed side.byte_masks.items side.status_mask
+    (tape_of (ruling_of side.book.now.table side.known) side.shadow side.masks side.bits side.crossed side.byte_masks.items side.status_mask
     side.unclear) c.in_ok-outside.outside c.make_kind.new.machine
-    (tape_of new.book.now.table new.shadow new.masks new.bits new.crossed new.byte_masks.items new.status_mask
+    (tape_of (ruling_of new.book.now.table new.known) new.shadow new.masks new.bits new.crossed new.byte_masks.items new.status_mask
     new.unclear) (secret_base_of kind (map_of side.shadow)) (kind_outside_range kind machine)
     (c.in_ok-outside.ensures.makes enclosures.regions)).1
 
@@ -73,9 +73,9 @@ returns-clause-halts g c =
     let enclosures : Enclosures = record { regions = c.args.marked.now.regions.items; skip = c.args.skip.now } in
     let kind = seen c.next_turn-turn.result in
     kind-halts enclosures kind c.entered_number-side.result c.skips-side.result c.none-side.result machine
-    (tape_of side.book.now.table side.shadow side.masks side.bits side.crossed side.byte_masks.items side.status_mask
+    (tape_of (ruling_of side.book.now.table side.known) side.shadow side.masks side.bits side.crossed side.byte_masks.items side.status_mask
     side.unclear) c.in_ok-outside.outside c.make_kind.new.machine
-    (tape_of new.book.now.table new.shadow new.masks new.bits new.crossed new.byte_masks.items new.status_mask
+    (tape_of (ruling_of new.book.now.table new.known) new.shadow new.masks new.bits new.crossed new.byte_masks.items new.status_mask
     new.unclear) (secret_base_of kind (map_of side.shadow)) (kind_outside_range kind machine)
     (c.in_ok-outside.ensures.makes enclosures.regions)
 
@@ -87,9 +87,9 @@ returns-clause-ready g c = λ none clear.
     let enclosures : Enclosures = record { regions = c.args.marked.now.regions.items; skip = c.args.skip.now } in
     let kind = seen c.next_turn-turn.result in
     kind-ready enclosures kind c.entered_number-side.result c.skips-side.result c.none-side.result machine
-    (tape_of side.book.now.table side.shadow side.masks side.bits side.crossed side.byte_masks.items side.status_mask
+    (tape_of (ruling_of side.book.now.table side.known) side.shadow side.masks side.bits side.crossed side.byte_masks.items side.status_mask
     side.unclear) c.in_ok-outside.outside c.make_kind.new.machine
-    (tape_of new.book.now.table new.shadow new.masks new.bits new.crossed new.byte_masks.items new.status_mask
+    (tape_of (ruling_of new.book.now.table new.known) new.shadow new.masks new.bits new.crossed new.byte_masks.items new.status_mask
     new.unclear) c.args.marked.now.regions.keeps_rules (sym c.next_turn-turn.ensures.kind) c.requires
     c.in_ok-outside.ensures.base none clear (c.in_ok-outside.ensures.makes enclosures.regions)
 
@@ -101,9 +101,9 @@ returns-clause-makes g c = λ rules task place answers same at.
     let enclosures : Enclosures = record { regions = c.args.marked.now.regions.items; skip = c.args.skip.now } in
     let kind = seen c.next_turn-turn.result in
     turn_makes rules task place machine
-    (tape_of side.book.now.table side.shadow side.masks side.bits side.crossed side.byte_masks.items side.status_mask
+    (tape_of (ruling_of side.book.now.table side.known) side.shadow side.masks side.bits side.crossed side.byte_masks.items side.status_mask
     side.unclear) c.in_ok-outside.outside c.make_kind.new.machine
-    (tape_of new.book.now.table new.shadow new.masks new.bits new.crossed new.byte_masks.items new.status_mask
+    (tape_of (ruling_of new.book.now.table new.known) new.shadow new.masks new.bits new.crossed new.byte_masks.items new.status_mask
     new.unclear) enclosures kind c.entered_number-side.result c.skips-side.result c.none-side.result answers same at
     c.next_turn-turn.ensures.kind c.entered_number-side.ensures
     (c.skips-side.ensures enclosures.regions) c.none-side.ensures (c.in_ok-outside.ensures.makes enclosures.regions)

@@ -3,7 +3,7 @@ use Rattle.tracked_run.specs.Labels.{labels_of}
 use Rattle.tracked_run.proofs.ByteMasks.{mask_for}
 use Rattle.run_labels.specs.TurnLabels.{aim_label}
 use Rattle.every_secret.specs.Masked.{unclear_by_left}
-use Rattle.every_secret.specs.Private.Tapes.{tape_of}
+use Rattle.every_secret.specs.Private.Tapes.{ruling_of, tape_of}
 use Rattle.every_secret.proofs.Nodes.{masks-passed}
 use Rattle.every_secret.proofs.OneVisit.{fits_shown, put_width, visited}
 use Rattle.every_secret.proofs.walking.Walking.visit.Goals as goal
@@ -19,15 +19,15 @@ returns-clause-goes g c = λ clear go out after masks past ahead.
     let passing = c.args.passing in
     let old = labels_of self.shadow self.held in
     let new = labels_of c.put_aimed.new.shadow c.put_aimed.new.held in
-    let before = tape_of self.book.now.table self.shadow self.masks self.bits self.crossed self.byte_masks.items
+    let before = tape_of (ruling_of self.book.now.table self.known) self.shadow self.masks self.bits self.crossed self.byte_masks.items
     self.status_mask self.unclear in
-    let mid = tape_of self.book.now.table c.put_aimed.new.shadow c.next-crossing.new.self c.put_in.new.bits
+    let mid = tape_of (ruling_of self.book.now.table self.known) c.put_aimed.new.shadow c.next-crossing.new.self c.put_in.new.bits
     c.saturating_add-self.result c.note_free.new.byte_masks.items c.in_ok-self.field-0 c.decided-self.result in
     masks-passed (record { masks = masks; skipped = self.skipped }) self.region past old before clear passing go
     c.in_ok-value.value new mid out refl c.in_ok-value.ensures.takes.longer
     (λ rules answers. visited rules (record { masks = masks; skipped = self.skipped }) past old before passing
     c.in_ok-value.value new mid c.passing_mask-mask.result c.next-crossing.result c.uncrossed-left.result c.shown_of-shown.result
-    (c.passing_mask-mask.ensures.mask rules answers) (c.next-crossing.ensures.mask masks past ahead) c.uncrossed-left.ensures.uncrossed
+    (c.passing_mask-mask.ensures.mask rules answers.answers) (c.next-crossing.ensures.mask masks past ahead) c.uncrossed-left.ensures.uncrossed
     (c.in_ok-put_aimed.ensures.put ∙ ap (λ label. aim_label passing.aim label old) c.labelled-label.ensures.label)
     (omega (arith, c.saturating_add-self.ensures, c.bit_count.ensures.count)) c.shown_of-shown.ensures c.in_ok-self.ensures.bytes c.in_ok-self.ensures.status c.in_ok-value.ensures.takes
     c.in_ok-value.ensures.value

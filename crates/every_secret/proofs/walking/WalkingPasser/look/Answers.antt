@@ -1,14 +1,14 @@
 use Rattle.std.proofs.Common.{ap, ◌∙◌}
 use Rattle.tracked_run.specs.Labels.{labels_of}
 use Rattle.every_secret.specs.Masked.{unclear_by_look}
-use Rattle.every_secret.specs.Private.Tapes.{knowledge_of, tape_of}
+use Rattle.every_secret.specs.Private.Tapes.{knowledge_of, ruling_of, tape_of}
 use Rattle.every_secret.proofs.Nodes.{masks-looked, over-looked}
 use Rattle.every_secret.proofs.walking.WalkingPasser.look.Goals as goal
 
 pub returns-in-Some-clause-goes : goal.returns-in-Some-clause-goes
 returns-in-Some-clause-goes g c = λ walk out after masks past ahead.
     let self = c.args.self.now in
-    let tape = tape_of self.book.now.table self.shadow self.masks self.bits self.crossed self.byte_masks.items
+    let tape = tape_of (ruling_of self.book.now.table self.known) self.shadow self.masks self.bits self.crossed self.byte_masks.items
     self.status_mask self.unclear in
     let known = knowledge_of past (labels_of self.shadow self.held) tape in
     over-looked (record { masks = masks; skipped = self.skipped }) self.region known known tape _ c.in-Some.is
@@ -17,7 +17,7 @@ returns-in-Some-clause-goes g c = λ walk out after masks past ahead.
 pub returns-in-None-clause-goes : goal.returns-in-None-clause-goes
 returns-in-None-clause-goes g c = λ walk out after masks past ahead.
     let self = c.args.self.now in
-    let tape = tape_of self.book.now.table self.shadow self.masks self.bits self.crossed self.byte_masks.items
+    let tape = tape_of (ruling_of self.book.now.table self.known) self.shadow self.masks self.bits self.crossed self.byte_masks.items
     self.status_mask self.unclear in
     masks-looked (record { masks = masks; skipped = self.skipped }) self.region past (labels_of self.shadow self.held)
     tape c.in-None.is c.looked-self.result c.args.seen c.args._value walk out
