@@ -74,14 +74,15 @@ same_check options first second parts a b alike one other =
     ∙ (ap (λ v. made_check b.guest b.cut b.secrets b.budget v a.judging) turns
     ∙ ap (λ v. made_check b.guest b.cut b.secrets b.budget b.turns v) judging))))
 
-abbrev made_all : GuestNames → List ℕ → ℕ → ℕ → ℕ → ℕ → Bool → AllSecrets
-made_all guest cut budget turns table paths listed = record {
+abbrev made_all : GuestNames → List ℕ → ℕ → ℕ → ℕ → ℕ → Bool → Bool → AllSecrets
+made_all guest cut budget turns table paths any_public listed = record {
   guest = guest;
   cut = cut;
   budget = budget;
   turns = turns;
   table = table;
   paths = paths;
+  any_public = any_public;
   listed = listed;
 }
 
@@ -103,14 +104,16 @@ same_all parts a b one other =
     let table : a.table ≡ b.table = same_number_or 1 1 2 _ a.table b.table (omega arith) one.rules other.rules in
     let paths : a.paths ≡ b.paths = same_number_or 65536 1 1048576 _ a.paths b.paths (omega arith) one.paths
     other.paths in
+    let any_public : a.any_public ≡ b.any_public = one.any_public ∙ sym other.any_public in
     let listed : a.listed ≡ b.listed = one.listed ∙ sym other.listed in
-    ap (λ v. made_all v a.cut a.budget a.turns a.table a.paths a.listed) guest
-    ∙ (ap (λ v. made_all b.guest v a.budget a.turns a.table a.paths a.listed) cut
-    ∙ (ap (λ v. made_all b.guest b.cut v a.turns a.table a.paths a.listed) budget
-    ∙ (ap (λ v. made_all b.guest b.cut b.budget v a.table a.paths a.listed) turns
-    ∙ (ap (λ v. made_all b.guest b.cut b.budget b.turns v a.paths a.listed) table
-    ∙ (ap (λ v. made_all b.guest b.cut b.budget b.turns b.table v a.listed) paths
-    ∙ ap (λ v. made_all b.guest b.cut b.budget b.turns b.table b.paths v) listed)))))
+    ap (λ v. made_all v a.cut a.budget a.turns a.table a.paths a.any_public a.listed) guest
+    ∙ (ap (λ v. made_all b.guest v a.budget a.turns a.table a.paths a.any_public a.listed) cut
+    ∙ (ap (λ v. made_all b.guest b.cut v a.turns a.table a.paths a.any_public a.listed) budget
+    ∙ (ap (λ v. made_all b.guest b.cut b.budget v a.table a.paths a.any_public a.listed) turns
+    ∙ (ap (λ v. made_all b.guest b.cut b.budget b.turns v a.paths a.any_public a.listed) table
+    ∙ (ap (λ v. made_all b.guest b.cut b.budget b.turns b.table v a.any_public a.listed) paths
+    ∙ (ap (λ v. made_all b.guest b.cut b.budget b.turns b.table b.paths v a.listed) any_public
+    ∙ ap (λ v. made_all b.guest b.cut b.budget b.turns b.table b.paths b.any_public v) listed))))))
 
 abbrev made_run : GuestNames → List ℕ → ℕ → ℕ → Run
 made_run guest secret turns table = record { guest = guest; secret = secret; turns = turns; table = table }

@@ -45,7 +45,8 @@ pub record ManyRuns : Type 0 where
   pub table : ℕ
 
 -- all secrets of a guest, whose outputs are to be bounded by a cut, with the limits of bits, of turns and of paths, by the
--- mask rules of a table; and whether each pattern of outputs is listed
+-- mask rules of a table; whether the public input is unknown too, with its length alone given; and whether each pattern
+-- of outputs is listed
 pub record AllSecrets : Type 0 where
   pub guest : GuestNames
   pub cut : List ℕ
@@ -53,6 +54,7 @@ pub record AllSecrets : Type 0 where
   pub turns : ℕ
   pub table : ℕ
   pub paths : ℕ
+  pub any_public : Bool
   pub listed : Bool
 
 -- a command: the judgement of secrets, the bound for all secrets, what is told of a run, the one cut of several runs in a
@@ -142,9 +144,11 @@ pub record IsAllSecrets (parts : Parts) (all : AllSecrets) : Type 0 where
   pub regions : option_value (codes "--regions") parts.options ≡ all.guest.region_file
   pub rules : IsChoice (option_value (codes "--rules") parts.options) all.table
   pub paths : IsNumberOr default_paths 1 highest_paths (option_value (codes "--paths") parts.options) all.paths
+  pub any_public : all.any_public ≡ has_option (codes "--any-public") parts.options
   pub listed : all.listed ≡ has_option (codes "--list") parts.options
   pub taken :
-      are_taken (codes "--rules" ∷ codes "--paths" ∷ check_options) (codes "--list" ∷ []) parts.options ≡ true
+      are_taken (codes "--rules" ∷ codes "--paths" ∷ check_options) (codes "--any-public" ∷ codes "--list" ∷ [])
+      parts.options ≡ true
 
 -- the options that every measured run may have
 abbrev pub run_options : List (List ℕ)

@@ -49,7 +49,8 @@ is_plain_word (byte ∷ bytes) = not (byte == 45)
 
 -- the word is an option without a value
 abbrev pub is_flag : List ℕ → Bool
-is_flag word = bytes_eq word (codes "--json") || bytes_eq word (codes "--list")
+is_flag word =
+    bytes_eq word (codes "--json") || bytes_eq word (codes "--list") || bytes_eq word (codes "--any-public")
 
 abbrev pub is_equals : ℕ → Bool
 is_equals byte = byte == 61

@@ -48,6 +48,7 @@ all_secrets_of words = record {
   turns = words.limits.turns;
   table = words.table;
   paths = words.paths;
+  any_public = words.any_public;
   listed = words.listed;
 }
 

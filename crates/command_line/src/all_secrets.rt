@@ -16,6 +16,8 @@ pub struct AllSecretsWords<'a> {
     pub table: u32,
     /// The number of walks that are made at most, 1 to 1,048,576.
     pub paths: u32,
+    /// Whether the public input is unknown too, with its length alone given.
+    pub any_public: bool,
     /// Whether each pattern of outputs is listed.
     pub listed: bool,
     ghost first: { 1 ≤ table },

@@ -11,11 +11,15 @@ use crate::parts::Parts;
 
 /// Whether no option stands there but those of a bound.
 fn are_of_bound(parts: &Parts) -> bool
-    ensures { result ≡ are_taken_of (codes "--rules" ∷ codes "--paths" ∷ check_options) (codes "--list" ∷ [])
-        (parts_in parts.now).options }
+    ensures { result ≡ are_taken_of (codes "--rules" ∷ codes "--paths" ∷ check_options) (codes "--any-public" ∷
+        codes "--list" ∷ []) (parts_in parts.now).options }
 {
     let allowed = ["--rules", "--paths", "--turns", "--regions"];
-    are_taken(parts.options.as_slice(), &allowed, &["--list"])
+    are_taken(
+        parts.options.as_slice(),
+        &allowed,
+        &["--any-public", "--list"],
+    )
 }
 
 /// The bound that the words after `bound` name; None exactly where they name none.
@@ -49,6 +53,7 @@ pub fn all_secrets_words<'a>(parts: &Parts<'a>) -> Option<AllSecretsWords<'a>>
         limits,
         table,
         paths,
+        any_public: has_option(options, "--any-public"),
         listed: has_option(options, "--list"),
     })
 }

@@ -26,7 +26,8 @@ pub enum CommandWords<'a> {
     /// `check PROG PUBLIC CUT BUDGET SECRET.. [--turns N] [--regions FILE]`, or `taint`, which may have `--rules N`, in
     /// place of `check`
     Check(CheckWords<'a>),
-    /// `bound PROG PUBLIC CUT BUDGET [--turns N] [--regions FILE] [--rules N] [--paths N] [--list]`
+    /// `bound PROG PUBLIC CUT BUDGET [--turns N] [--regions FILE] [--rules N] [--paths N] [--list]
+    /// [--any-public]`
     Bound(AllSecretsWords<'a>),
     /// `measure PROG PUBLIC SECRET [--turns N] [--regions FILE] [--rules N] [--cut N]`; `graph` or `report`, which may
     /// have `--json`, in place of `measure` and without `--cut`; `learn PROG PUBLIC SECRET FILE [--turns N]`

@@ -1,8 +1,8 @@
 ghost use Rattle.std.specs.Prelude.{◌≡◌, true, false, map, string_bytes, option_map, IfNone, IfOk, IfSome, Some, ◌++◌};
 ghost use Rattle.std.specs.Prelude.{◌∷◌, []};
 ghost use Rattle.std.specs.List.{before_first, after_first};
-ghost use Rattle.command_line.specs.Parts.{after_word as after_word_of, has_equals, is_equals, is_plain_word};
-ghost use Rattle.command_line.specs.Parts.{parts_of as parts_of_of, with_behind as with_behind_of};
+ghost use Rattle.command_line.specs.Parts.{after_word as after_word_of, has_equals, is_equals, is_flag as is_flag_of};
+ghost use Rattle.command_line.specs.Parts.{is_plain_word, parts_of as parts_of_of, with_behind as with_behind_of};
 ghost use Rattle.command_line.specs.Parts.{with_beside as with_beside_of, with_option as with_option_of};
 ghost use Rattle.command_line.specs.Words.{parts_in};
 
@@ -108,6 +108,13 @@ fn with_plain<'a>(before: Parts<'a>, word: &'a str) -> Result<Parts<'a>, NoMemor
     })
 }
 
+/// Whether a word is an option without a value.
+fn is_flag(word: &str) -> bool
+    ensures { result ≡ is_flag_of word.now }
+{
+    word == "--json" || word == "--list" || word == "--any-public"
+}
+
 /// These parts, and the next word; None exactly where it cannot stand here.
 fn after_word<'a>(before: Parts<'a>, word: &'a str) -> Result<Option<Parts<'a>>, NoMemory>
     ensures { IfOk result (λ after. option_map parts_in after ≡ after_word_of (parts_in before.entry)
@@ -119,7 +126,7 @@ fn after_word<'a>(before: Parts<'a>, word: &'a str) -> Result<Option<Parts<'a>>,
     if is_name(word) {
         return Ok(Some(with_plain(before, word)?));
     }
-    if word == "--json" || word == "--list" {
+    if is_flag(word) {
         return with_option(before, word, None);
     }
     if let Some((name, value)) = around_equals(word) {

@@ -37,6 +37,7 @@ returns-clause-is c = record {
   regions = search rules;
   rules = rw c.in-Some-choice_in.is at c.choice_in.ensures.is;
   paths = rw (c.value_of.ensures, c.as_slice-options.ensures, c.in-Some-paths_of.is) at c.paths_of.ensures.is;
+  any_public = search rules;
   listed = search rules;
   taken = search rules;
 }
