@@ -43,6 +43,7 @@ all_secrets_in all = record {
   limits = limits_in all.limits;
   table = all.table;
   paths = all.paths;
+  any_public = all.any_public;
   listed = all.listed;
 }
 

@@ -27,13 +27,15 @@ pub record CheckTask : Type 0 where
   pub limits : Limits
   pub judging : Judging
 
--- the guest, the cut, the limits of bits, of turns and of paths, the table of mask rules, and whether patterns are listed
+-- the guest, the cut, the limits of bits, of turns and of paths, the table of mask rules, whether the public input is
+-- unknown too, with its length alone given, and whether patterns are listed
 pub record AllSecretsTask : Type 0 where
   pub guest : Guest
   pub cut : CutPicture
   pub limits : Limits
   pub table : ℕ
   pub paths : ℕ
+  pub any_public : Bool
   pub listed : Bool
 
 -- the guest, the secret, the limit of turns, and the table of mask rules by which the run is measured
@@ -108,6 +110,7 @@ pub record IsAllSecretsTask (all : AllSecrets) (files : List (List ℕ)) (task :
   pub limits : task.limits ≡ record { budget = all.budget; turns = all.turns }
   pub table : task.table ≡ all.table
   pub paths : task.paths ≡ all.paths
+  pub any_public : task.any_public ≡ all.any_public
   pub listed : task.listed ≡ all.listed
 
 -- the files of a run, which are well formed, and are this task

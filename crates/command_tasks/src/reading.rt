@@ -148,6 +148,7 @@ fn read_all_secrets<'a>(
         limits: all.limits,
         table: all.table,
         paths: all.paths,
+        any_public: all.any_public,
         listed: all.listed,
     })
 }

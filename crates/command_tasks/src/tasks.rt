@@ -33,6 +33,8 @@ pub struct AllSecretsTask<'a> {
     pub table: u32,
     /// The number of walks that are made at most.
     pub paths: u32,
+    /// Whether the public input is unknown too, with its length alone given.
+    pub any_public: bool,
     /// Whether each pattern of outputs is listed.
     pub listed: bool,
 }
