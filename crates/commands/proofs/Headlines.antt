@@ -209,23 +209,26 @@ judged_headline source (Masks table) check files task answer loads is (findings,
 same_named : (all : AllSecrets) (files : List (List ℕ)) (task : AllSecretsTask) → IsAllSecretsTask all files task →
     task ≡ named_task all task.guest task.cut
 same_named all files task is =
-    let made : Limits → ℕ → ℕ → Bool → AllSecretsTask = λ limits table paths listed. record {
+    let made : Limits → ℕ → ℕ → Bool → Bool → AllSecretsTask = λ limits table paths any_public listed. record {
       guest = task.guest;
       cut = task.cut;
       limits = limits;
       table = table;
       paths = paths;
+      any_public = any_public;
       listed = listed;
     } in
-    ap (λ v. made v task.table task.paths task.listed) is.limits
-    ∙ (ap (λ v. made (record { budget = all.budget; turns = all.turns }) v task.paths task.listed) is.table
-    ∙ (ap (λ v. made (record { budget = all.budget; turns = all.turns }) all.table v task.listed) is.paths
-    ∙ ap (λ v. made (record { budget = all.budget; turns = all.turns }) all.table all.paths v) is.listed))
+    let named : Limits = record { budget = all.budget; turns = all.turns } in
+    ap (λ v. made v task.table task.paths task.any_public task.listed) is.limits
+    ∙ (ap (λ v. made named v task.paths task.any_public task.listed) is.table
+    ∙ (ap (λ v. made named all.table v task.any_public task.listed) is.paths
+    ∙ (ap (λ v. made named all.table all.paths v task.listed) is.any_public
+    ∙ ap (λ v. made named all.table all.paths all.any_public v) is.listed)))
 
 shows : (task : AllSecretsTask) (known : BoundAnswer) (answer : Answer) → AnswersBound task known answer →
     Shows task known (reply_of answer)
 shows task (IsBounded found) answer (all, (bits, least, e)) = record {
-  all_secrets = all;
+  tells = all;
   bits = bits;
   least = least;
   lines = ap (λ a. (told a).text) e;

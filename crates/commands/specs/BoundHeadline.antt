@@ -1,23 +1,24 @@
--- The headline of a bound: what its lines say of all secrets, whatever they are.
+-- The headline of a bound: what its lines say of all secrets, whatever they are, and of all public inputs where they are
+-- not known.
 use Rattle.std.specs.Prelude.{◌≡◌, ◌⊎◌, ℕ, Bool, List, [], ◌∷◌, Option}
 use Rattle.cut_file.specs.Cuts.{CutPicture}
 use Rattle.cut_file.specs.Texts.{CutText}
 use Rattle.flow_base.specs.Loads.{Told}
-use Rattle.every_secret.specs.AllSecrets.{AreAll}
+use Rattle.every_secret.specs.AnyPublic.{TellsOf}
 use Rattle.every_secret.specs.Bounds.{Answer as BoundAnswer, Found, HasMorePaths, IsBounded, IsLeastPower, IsUnclear}
 use Rattle.every_secret.specs.Bounds.{output_count, summary_of}
 use Rattle.command_line.specs.CommandLines.{AllSecrets}
 use Rattle.command_tasks.specs.Tasks.{AllSecretsTask}
 use Rattle.command_tasks.specs.Guests.{Guest, GuestFiles, IsGuest}
-use Rattle.task_answers.specs.AllSecrets.{bound_of, bounded_text, task_in, tree_in}
+use Rattle.task_answers.specs.AllSecrets.{bound_of, bounded_text, public_of, task_in, tree_in}
 use Rattle.task_answers.specs.BoundTexts.{too_many_line, unclear_line}
 use Rattle.commands.specs.Headline.{AreGuestHeld}
 use Rattle.commands.specs.Replies.{Reply}
 
--- a bounded answer shows what is found, which tells of all secrets, with the number of its outputs and the least number
--- of bits for that
+-- a bounded answer shows what is found, which tells of all secrets, or of all pairs of a public input and a secret, with the
+-- number of its outputs and the least number of bits for that
 pub record ShowsBound (all : AllSecretsTask) (found : Found) (reply : Reply) : Type 0 where
-  pub all_secrets : AreAll (task_in all) all.limits found
+  pub tells : TellsOf (public_of all) (task_in all) all.limits (IsBounded found)
   pub bits : ℕ
   pub least : IsLeastPower (output_count found.patterns) bits
   pub lines : reply.text ≡ bounded_text all (summary_of found) bits
@@ -47,6 +48,7 @@ named_task all guest cut = record {
   limits = record { budget = all.budget; turns = all.turns };
   table = all.table;
   paths = all.paths;
+  any_public = all.any_public;
   listed = all.listed;
 }
 

@@ -108,6 +108,9 @@ pub(crate) fn put_in(
         word ≡ patched value differing (take (asked_for shown differing) (drop bits.old.taken bits.new.bits))) }
 {
     let _ = bits.left();
+    if differing == 0 {
+        return Ok(value);
+    }
     match shown {
         Shown::Nothing => choose(bits, value, differing),
         Shown::WrittenByte => Ok(cleared(value, differing)),

@@ -2,15 +2,16 @@
 use Rattle.std.proofs.Common.{◌≡◌}
 use Rattle.every_secret.specs.declared.verdicts.Bounded.{Bounded}
 use Rattle.every_secret.specs.declared.verdicts.BoundVerdict.TheVariants as verdict
-use Rattle.every_secret.specs.AllSecrets.{AreAll, TellsAll}
+use Rattle.every_secret.specs.AnyPublic.{TellsOf}
 use Rattle.every_secret.specs.Bounds.{Answer as BoundAnswer, Found, IsBounded, IsUnclear, Shows, summary_in, summary_of}
 use Rattle.command_tasks.specs.Tasks.{AllSecretsTask}
-use Rattle.task_answers.specs.AllSecrets.{AnswersBound, task_in}
+use Rattle.task_answers.specs.AllSecrets.{AnswersBound, public_of, task_in}
 use Rattle.task_answers.specs.Answers.{Answer}
 
 pub bounded_answers : (all : AllSecretsTask) (bounded : Bounded) (known : BoundAnswer) (answer : Answer) →
-    Shows (verdict.Bounded bounded) known → TellsAll (task_in all) all.limits known →
-    ((found : Found) → summary_in bounded ≡ summary_of found → AreAll (task_in all) all.limits found →
+    Shows (verdict.Bounded bounded) known → TellsOf (public_of all) (task_in all) all.limits known →
+    ((found : Found) → summary_in bounded ≡ summary_of found →
+    TellsOf (public_of all) (task_in all) all.limits (IsBounded found) →
     AnswersBound all (IsBounded found) answer) →
     AnswersBound all known answer
 bounded_answers all bounded (IsBounded found) answer shows tells h = h found shows tells

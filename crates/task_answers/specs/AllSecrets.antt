@@ -5,40 +5,49 @@ use Rattle.transfer_rules.specs.Table1.{mask_by_table_1}
 use Rattle.transfer_rules.specs.Table2.{mask_by_table_2}
 use Rattle.every_secret.specs.Bounds.{Answer as BoundAnswer, Bounds, HasMorePaths, IsBounded, IsLeastPower, IsUnclear}
 use Rattle.every_secret.specs.Bounds.{Summary, output_count, summary_of}
-use Rattle.every_secret.specs.AllSecrets.{AreAll}
+use Rattle.every_secret.specs.declared.public_inputs.PublicInput.{PublicInput}
+use Rattle.every_secret.specs.declared.public_inputs.PublicInput.TheVariants.{Given, Any}
+use Rattle.every_secret.specs.AnyPublic.{TellsOf, seen_task}
 use Rattle.every_secret.specs.Paths.{Tree, tree_of}
 use Rattle.every_secret.specs.Replays.{MaskedReplay}
 use Rattle.every_secret.specs.Rules.{Rules, rules_of}
 use Rattle.command_tasks.specs.declared.statuses.Status.TheVariants.{Done, Rejected}
 use Rattle.command_tasks.specs.Tasks.{AllSecretsTask}
 use Rattle.task_answers.specs.Answers.{Answer}
-use Rattle.task_answers.specs.BoundTexts.{bounded_line, listing, too_many_line, unclear_line}
+use Rattle.task_answers.specs.BoundTexts.{bounded_line, listing, public_text, too_many_line, unclear_line}
 
--- the mask rules of table 1, and for every other number those of table 2
-abbrev pub rules_by : ℕ → Rules
-rules_by table = if table == 1 then rules_of mask_by_table_1 else rules_of mask_by_table_2
+-- the mask rules of table 1, and for every other number those of table 2, where so much is known of the public input
+abbrev pub rules_by : ℕ → PublicInput → Rules
+rules_by table public = if table == 1 then rules_of mask_by_table_1 public else rules_of mask_by_table_2 public
+
+-- what is known of the public input: its bytes, or how many they are
+abbrev pub public_of : AllSecretsTask → PublicInput
+public_of all = if all.any_public then Any else Given
 
 -- what the secrets are those of
 abbrev pub task_in : AllSecretsTask → BoundTask
 task_in all = task_of all.guest.program all.guest.public_input all.guest.regions all.cut
 
--- the bound for all secrets
+-- the bound for all secrets, or for all pairs of a public input and a secret
 abbrev pub bound_of : AllSecretsTask → BoundAnswer
-bound_of all = Bounds (rules_by all.table) (task_in all) all.limits
+bound_of all = Bounds (rules_by all.table (public_of all)) (seen_task (public_of all) (task_in all)) all.limits
 
 -- the tree of all paths
 abbrev pub tree_in : AllSecretsTask → Tree
-tree_in all = tree_of (MaskedReplay (rules_by all.table) (task_in all) all.limits)
+tree_in all =
+    tree_of (MaskedReplay (rules_by all.table (public_of all)) (seen_task (public_of all) (task_in all)) all.limits)
 
 -- the text of what is found, where so many bits suffice for the outputs
 abbrev pub bounded_text : AllSecretsTask → Summary → ℕ → List ℕ
 bounded_text all found bits =
-    listing all.listed found ++ bounded_line all.cut.secret_len (length all.guest.regions) found bits
+    listing all.listed found
+    ++ bounded_line all.cut.secret_len (public_text all.any_public (length all.guest.public_input))
+    (length all.guest.regions) found bits
 
--- what is found tells of all secrets, and its text has the least number of bits for its outputs
+-- what is found tells of all secrets, or pairs, and its text has the least number of bits for its outputs
 abbrev pub AnswersBound : AllSecretsTask → BoundAnswer → Answer → Type 0
 AnswersBound all (IsBounded found) answer =
-    AreAll (task_in all) all.limits found
+    TellsOf (public_of all) (task_in all) all.limits (IsBounded found)
     × ((bits : ℕ) × IsLeastPower (output_count found.patterns) bits
     × (answer ≡ Ok (record { status = Done; text = bounded_text all (summary_of found) bits })))
 AnswersBound all (IsUnclear bits why) answer =

@@ -1,5 +1,5 @@
 -- The texts of a bound. Numbers are decimal; bits and bytes are hexadecimal digits, `-` where there are none.
-use Rattle.std.specs.Prelude.{ℕ, ◌+◌, ◌==◌, Bool, List, [], ◌∷◌, ◌++◌, length, codes, Option, Some, None}
+use Rattle.std.specs.Prelude.{ℕ, ◌+◌, ◌==◌, Bool, true, false, List, [], ◌∷◌, ◌++◌, length, codes, Option, Some, None}
 use Rattle.std.specs.Prelude.{if◌then◌else◌}
 use Rattle.std.specs.Fmt.{decimal}
 use Rattle.hex.specs.Hex.{encode_lower}
@@ -67,9 +67,14 @@ paths_text found =
     codes " paths " ++ (count_text found.paths ++ (codes " stopped " ++ (count_text found.stopped ++ (codes " outputs "
     ++ count_text (counted (output_count found.patterns))))))
 
--- the bound: the length of the secrets, how many regions are listed, paths, stops and outputs, and for how many outputs
--- the bits suffice
-abbrev pub bounded_line : ℕ → ℕ → Summary → ℕ → List ℕ
-bounded_line secret_length regions found bits =
-    codes "bounded secret " ++ (decimal secret_length ++ (codes " regions " ++ (decimal regions ++ (paths_text found
-    ++ (codes " bits " ++ (decimal bits ++ codes "\n"))))))
+-- how many bytes the public input has, where they are not known
+abbrev pub public_text : Bool → ℕ → List ℕ
+public_text true count = codes " public " ++ decimal count
+public_text false count = []
+
+-- the bound: the length of the secrets, that of public inputs if they are not known, how many regions are listed, paths,
+-- stops and outputs, and for how many outputs the bits suffice
+abbrev pub bounded_line : ℕ → List ℕ → ℕ → Summary → ℕ → List ℕ
+bounded_line secret_length public regions found bits =
+    codes "bounded secret " ++ (decimal secret_length ++ (public ++ (codes " regions " ++ (decimal regions
+    ++ (paths_text found ++ (codes " bits " ++ (decimal bits ++ codes "\n")))))))

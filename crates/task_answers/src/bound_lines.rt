@@ -7,6 +7,7 @@ ghost use Rattle.task_answers.specs.BoundTexts.{bounded_line as bounded_line_of,
 ghost use Rattle.task_answers.specs.BoundTexts.{hex_bytes as hex_bytes_of, listing as listing_of};
 ghost use Rattle.task_answers.specs.BoundTexts.{mask_text as mask_text_of, path_text as path_text_of};
 ghost use Rattle.task_answers.specs.BoundTexts.{paths_text as paths_text_of, status_text as status_text_of};
+ghost use Rattle.task_answers.specs.BoundTexts.{public_text as public_text_of};
 ghost use Rattle.task_answers.specs.BoundTexts.{pattern_line as pattern_line_of, pattern_lines as pattern_lines_of};
 ghost use Rattle.task_answers.specs.BoundTexts.{stop_line as stop_line_of, too_many_line as too_many_line_of};
 ghost use Rattle.task_answers.specs.BoundTexts.{unclear_line as unclear_line_of};
@@ -195,34 +196,50 @@ fn paths_text(alloc: Global, found: &Bounded) -> Result<Bytes, NoMemory>
     Ok(text)
 }
 
+/// How many bytes the public input has, if they are not known; else nothing.
+pub fn public_text(alloc: Global, any: bool, count: usize) -> Result<Bytes, NoMemory>
+    ensures { IfOk result (λ text. text ≡ public_text_of any count) }
+{
+    if any {
+        let text = format!(in alloc; " public {count}")?;
+        Ok(Bytes::from_slice(alloc, text.as_bytes())?)
+    } else {
+        Ok(Bytes::new(alloc))
+    }
+}
+
 /// The line of a bound, where so many bits suffice for the outputs.
 fn bounded_text(
     alloc: Global,
     secret_length: u32,
+    public: &[u8],
     regions: usize,
     found: &Bounded,
     bits: u128,
 ) -> Result<Bytes, NoMemory>
-    ensures { IfOk result (λ text. text ≡ bounded_line_of secret_length regions (summary_in found.now) bits) }
+    ensures { IfOk result (λ text. text ≡ bounded_line_of secret_length public.now regions (summary_in found.now) bits) }
 {
     let paths = paths_text(alloc, found)?;
-    let head = format!(in alloc; "bounded secret {secret_length} regions {regions}")?;
+    let head = format!(in alloc; "bounded secret {secret_length}")?;
+    let middle = format!(in alloc; " regions {regions}")?;
     let tail = format!(in alloc; " bits {bits}\n")?;
-    let text = joined(alloc, head.as_bytes(), paths.as_slice(), tail.as_bytes())?;
+    let start = joined(alloc, head.as_bytes(), public, middle.as_bytes())?;
+    let text = joined(alloc, start.as_slice(), paths.as_slice(), tail.as_bytes())?;
     Ok(text)
 }
 
-/// The line of a bound.
+/// The line of a bound, in which so much is said of the public input.
 pub fn bounded_line(
     alloc: Global,
     secret_length: u32,
+    public: &[u8],
     regions: usize,
     found: &Bounded,
 ) -> Result<Bytes, NoMemory>
     ensures { IfOk result (λ text. (bits : ℕ) × IsLeastPower (output_count_of found.now.patterns) bits
-        × (text ≡ bounded_line_of secret_length regions (summary_in found.now) bits)) }
+        × (text ≡ bounded_line_of secret_length public.now regions (summary_in found.now) bits)) }
 {
     let bits = output_bits(alloc, found.patterns.as_slice())?;
-    let text = bounded_text(alloc, secret_length, regions, found, bits)?;
+    let text = bounded_text(alloc, secret_length, public, regions, found, bits)?;
     Ok(text)
 }

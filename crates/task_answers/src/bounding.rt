@@ -1,21 +1,34 @@
 //! The outputs of all secrets of a guest, bounded by a cut.
 
 ghost use Rattle.std.specs.Prelude.{◌≡◌, ◌∷◌, ◌<◌, [], Ok as Fine, map, IfOk};
-ghost use Rattle.every_secret.specs.AllSecrets.{AreAll, TellsAll};
+ghost use Rattle.every_secret.specs.AnyPublic.{TellsOf, seen_task};
 ghost use Rattle.every_secret.specs.Bounds.{Found, HasMorePaths, IsBounded, IsUnclear, IsVerdict, summary_in, summary_of};
 ghost use Rattle.command_tasks.specs.ReadTasks.{IsBoundedAll, all_secrets_in};
 ghost use Rattle.task_answers.specs.AllSecrets.{AnswersAllSecrets, AnswersBound, AnswersTooMany, bound_of, rules_by};
-ghost use Rattle.task_answers.specs.AllSecrets.{task_in as bound_task, tree_in};
+ghost use Rattle.task_answers.specs.AllSecrets.{public_of, task_in as bound_task, tree_in};
 
 use crate::books::book_of;
-use crate::bound_lines::{bounded_line, listing, too_many_line, unclear_line};
+use crate::bound_lines::{bounded_line, listing, public_text, too_many_line, unclear_line};
 use crate::replies::Reply;
 use command_tasks::{AllSecretsTask, Status};
 use crossing_bits::Bits;
-use every_secret::{BoundVerdict, Bounded, UnclearWhy, bound, tables_are_sound, tables_have_rules};
+use every_secret::{
+    BoundVerdict, Bounded, PublicInput, UnclearWhy, bound, tables_are_sound, tables_have_rules,
+};
 use flow_base::{Bytes, NoMemory};
 use std::alloc::Global;
 use transfer_rules::RuleBook;
+
+/// What is known of the public input.
+fn known_of(all: &AllSecretsTask) -> PublicInput
+    ensures { result ≡ public_of (all_secrets_in all.now) }
+{
+    if all.any_public {
+        PublicInput::Any
+    } else {
+        PublicInput::Given
+    }
+}
 
 /// What is known of the outputs of all secrets.
 fn verdict_on(
@@ -25,10 +38,11 @@ fn verdict_on(
 ) -> Result<BoundVerdict, NoMemory>
     requires books { map (λ book. book.table) books.now ≡ 1 ∷ 2 ∷ [] }
     requires bounded { IsBoundedAll all.now }
-    ensures answer { IfOk result (λ verdict. IsVerdict (rules_by all.now.table) (bound_task (all_secrets_in all.now))
+    ensures answer { IfOk result (λ verdict. IsVerdict (rules_by all.now.table (public_of (all_secrets_in all.now)))
+        (seen_task (public_of (all_secrets_in all.now)) (bound_task (all_secrets_in all.now)))
         (all_secrets_in all.now).limits all.now.paths verdict) }
-    ensures all { TellsAll (bound_task (all_secrets_in all.now)) (all_secrets_in all.now).limits
-        (bound_of (all_secrets_in all.now)) }
+    ensures all { TellsOf (public_of (all_secrets_in all.now)) (bound_task (all_secrets_in all.now))
+        (all_secrets_in all.now).limits (bound_of (all_secrets_in all.now)) }
 {
     tables_have_rules();
     tables_are_sound();
@@ -36,6 +50,7 @@ fn verdict_on(
         alloc,
         &all.guest.image,
         all.guest.public_input,
+        known_of(all),
         &all.guest.regions,
         &all.cut,
         book_of(books, all.table),
@@ -48,12 +63,14 @@ fn verdict_on(
 /// The reply to what all paths show.
 fn bounded_reply(alloc: Global, all: &AllSecretsTask, found: &Bounded) -> Result<Reply, NoMemory>
     ensures { IfOk result (λ reply. (all_found : Found) → summary_in found.now ≡ summary_of all_found →
-        AreAll (bound_task (all_secrets_in all.now)) (all_secrets_in all.now).limits all_found →
+        TellsOf (public_of (all_secrets_in all.now)) (bound_task (all_secrets_in all.now))
+        (all_secrets_in all.now).limits (IsBounded all_found) →
         AnswersBound (all_secrets_in all.now) (IsBounded all_found) (Fine reply)) }
 {
     let lines = listing(alloc, all.listed, found)?;
     let regions = all.guest.regions.items.len();
-    let last = bounded_line(alloc, all.cut.secret_len, regions, found)?;
+    let public = public_text(alloc, all.any_public, all.guest.public_input.len())?;
+    let last = bounded_line(alloc, all.cut.secret_len, public.as_slice(), regions, found)?;
     let mut text = lines;
     text.extend_from_slice(last.as_slice())?;
     Ok(Reply {

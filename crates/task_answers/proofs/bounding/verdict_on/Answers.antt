@@ -1,7 +1,10 @@
-use Rattle.std.proofs.Common.{subst, sym}
+use Rattle.std.proofs.Common.{◌∙◌, subst, sym}
 use Rattle.std.proofs.lemmas.Result.{IfOk-weaker}
+use Rattle.every_secret.specs.AnyPublic.{TellsOf, seen_task}
+use Rattle.every_secret.specs.Bounds.{Bounds, IsVerdict}
 use Rattle.every_secret.specs.Rules.{AnswerAs}
-use Rattle.task_answers.specs.AllSecrets.{rules_by}
+use Rattle.command_tasks.specs.ReadTasks.{all_secrets_in}
+use Rattle.task_answers.specs.AllSecrets.{public_of, rules_by, task_in}
 use Rattle.task_answers.proofs.TableRules.{table_rules}
 use Rattle.task_answers.proofs.bounding.verdict_on.Goals as goal
 
@@ -9,15 +12,24 @@ pub returns-clause-answer : goal.returns-clause-answer
 returns-clause-answer g c =
     let table = c.args.all.now.table in
     let known = c.requires.bounded in
-    let rules = table_rules c.tables_have_rules.ensures c.tables_are_sound.ensures table known.first known.last in
+    let public = public_of (all_secrets_in c.args.all.now) in
+    let rules = table_rules c.tables_have_rules.ensures c.tables_are_sound.ensures table public known.first known.last in
     IfOk-weaker c.bound.result _ _
-    (λ verdict shows. shows (rules_by table)
-    (subst (λ t. AnswerAs t (rules_by table)) (sym c.book_of.ensures) rules.answers))
+    (λ verdict shows.
+    subst (λ p. IsVerdict (rules_by table public) (seen_task p (task_in (all_secrets_in c.args.all.now)))
+    (all_secrets_in c.args.all.now).limits c.args.all.now.paths verdict) c.known_of.ensures
+    (shows (rules_by table public)
+    (subst (λ t. AnswerAs t (rules_by table public)) (sym c.book_of.ensures) rules.answers)
+    (rules.known ∙ sym c.known_of.ensures)))
     c.bound.ensures.answer
 
 pub returns-clause-all : goal.returns-clause-all
 returns-clause-all g c =
     let table = c.args.all.now.table in
     let known = c.requires.bounded in
-    let rules = table_rules c.tables_have_rules.ensures c.tables_are_sound.ensures table known.first known.last in
-    c.bound.ensures.all (rules_by table) rules.sound
+    let public = public_of (all_secrets_in c.args.all.now) in
+    let rules = table_rules c.tables_have_rules.ensures c.tables_are_sound.ensures table public known.first known.last in
+    subst (λ p. TellsOf p (task_in (all_secrets_in c.args.all.now)) (all_secrets_in c.args.all.now).limits
+    (Bounds (rules_by table public) (seen_task p (task_in (all_secrets_in c.args.all.now)))
+    (all_secrets_in c.args.all.now).limits)) c.known_of.ensures
+    (c.bound.ensures.all (rules_by table public) rules.sound (rules.known ∙ sym c.known_of.ensures))
