@@ -3,7 +3,7 @@
 
 Times `measure` of the built program beside `check` of the same guest with the cut that was measured: a tight loop, the
 same with 256 regions that it never enters, a loop through a region, a copy of memory byte by byte, each of about so
-many turns (2,000,000 without the word), the tight loop of ten times as many, a loop that carries a secret byte through
+many turns (1,900,000 without the word), the tight loop of ten times as many, a loop that carries a secret byte through
 60,000 points, a run whose graph has nearly as many points and links as a graph may have, a loop in which a point's
 mask changes at every visit, once and of ten times as many rounds, 4,000,000 instructions in a row, a point that is
 passed 1,000,000 times before it is secret, and a region with a range of 65,536 bytes that is entered 66,000 times,
@@ -122,7 +122,7 @@ def rows(turns):
 
 def main():
     parser = parser_of(__doc__)
-    parser.add_argument("turns", type=int, nargs="?", default=2_000_000, metavar="TURNS")
+    parser.add_argument("turns", type=int, nargs="?", default=1_900_000, metavar="TURNS")
     words = parser.parse_args()
     executable, turns = words.executable, words.turns
     print(f"{'guest':24}{'turns':>12}{'bits':>6}{'measure':>10}{'check':>9}{'times':>7}{'memory of both':>22}")
