@@ -108,61 +108,61 @@ module _ (run : RunLaw) (rules : Rules) (program : Picture) (seen : List ℕ) (r
 
   -- of a public input for which the one stands that is seen
   module _ (input : List ℕ) (public : AreSeenAs rules.public seen input) (inputs : AreInputs program input regions [])
-      where
-    abbrev pub task : Task
-    task = task_of program input regions cut
+    where
+      abbrev pub task : Task
+      task = task_of program input regions cut
 
-    abbrev Choice : List ℕ → Type 0
-    Choice secret = Chooses rules (task_of program seen regions cut) task limits secret
+      abbrev Choice : List ℕ → Type 0
+      Choice secret = Chooses rules (task_of program seen regions cut) task limits secret
 
-    path_shows : (secret : List ℕ) (choice : Choice secret) → Shows found choice.ends
-    path_shows secret choice =
-        end_at (Shows found) (tree_of walks) choice.bits (record { ends = choice.ends; rest = [] }) shows
-        (fed_descends walks choice.bits choice.ends [] choice.uses)
+      path_shows : (secret : List ℕ) (choice : Choice secret) → Shows found choice.ends
+      path_shows secret choice =
+          end_at (Shows found) (tree_of walks) choice.bits (record { ends = choice.ends; rest = [] }) shows
+          (fed_descends walks choice.bits choice.ends [] choice.uses)
 
-    chosen : (secret : List ℕ) → IsSecret task secret → (real_of task secret limits.turns).broken ≡ None →
-        Choice secret ⊎ IsLost task limits secret
-    chosen secret is unbroken =
-        run rules program seen input regions secret cut limits sound public (record {
-          program_valid = inputs.program_valid;
-          program_bytes = inputs.program_bytes;
-          public_bytes = inputs.public_bytes;
-          regions_valid = inputs.regions_valid;
-          secret_bytes = is.bytes;
-        }) valid small is unbroken
+      chosen : (secret : List ℕ) → IsSecret task secret → (real_of task secret limits.turns).broken ≡ None →
+          Choice secret ⊎ IsLost task limits secret
+      chosen secret is unbroken =
+          run rules program seen input regions secret cut limits sound public (record {
+            program_valid = inputs.program_valid;
+            program_bytes = inputs.program_bytes;
+            public_bytes = inputs.public_bytes;
+            regions_valid = inputs.regions_valid;
+            secret_bytes = is.bytes;
+          }) valid small is unbroken
 
-    accepted_at : (secret : List ℕ) (output : Output) → Gives task limits secret output → (e : PathEnd) →
-        EndsPath task limits secret e → Shows found e → Accept task limits secret output × IsListed found.patterns output
-    accepted_at secret output gives (Unclear why) alike shown = absurd shown
-    accepted_at secret output gives (Stops stop) alike shown = absurd (alike output gives)
-    accepted_at secret output gives (Exits pattern) alike shown =
-        let same : alike.output ≡ output = same_output (real_of task secret limits.turns).state alike.output output
-        alike.gives.exits gives.exits in (
-          subst (λ o. Accept task limits secret o) same alike.accept,
-          listed pattern output found.patterns shown (subst (λ o. StandsFor pattern o) same alike.stands),
-        )
+      accepted_at : (secret : List ℕ) (output : Output) → Gives task limits secret output → (e : PathEnd) →
+          EndsPath task limits secret e → Shows found e → Accept task limits secret output × IsListed found.patterns output
+      accepted_at secret output gives (Unclear why) alike shown = absurd shown
+      accepted_at secret output gives (Stops stop) alike shown = absurd (alike output gives)
+      accepted_at secret output gives (Exits pattern) alike shown =
+          let same : alike.output ≡ output = same_output (real_of task secret limits.turns).state alike.output output
+          alike.gives.exits gives.exits in (
+            subst (λ o. Accept task limits secret o) same alike.accept,
+            listed pattern output found.patterns shown (subst (λ o. StandsFor pattern o) same alike.stands),
+          )
 
-    pub accepted : (secret : List ℕ) (output : Output) → Gives task limits secret output →
-        Accept task limits secret output × IsListed found.patterns output
-    accepted secret output gives = elim (chosen secret gives.is_secret gives.unbroken) [
-      | inl choice ↦ accepted_at secret output gives choice.ends choice.alike (path_shows secret choice)
-      | inr lost ↦ absurd (lost.never output gives.exits)
-    ]
+      pub accepted : (secret : List ℕ) (output : Output) → Gives task limits secret output →
+          Accept task limits secret output × IsListed found.patterns output
+      accepted secret output gives = elim (chosen secret gives.is_secret gives.unbroken) [
+        | inl choice ↦ accepted_at secret output gives choice.ends choice.alike (path_shows secret choice)
+        | inr lost ↦ absurd (lost.never output gives.exits)
+      ]
 
-    given_at : (secret : List ℕ) → found.stopped ≡ 0 → (e : PathEnd) → EndsPath task limits secret e → Shows found e →
-        (output : Output) × Gives task limits secret output
-    given_at secret none (Unclear why) alike shown = absurd shown
-    given_at secret none (Stops stop) alike shown = absurd (omega (arith, none, shown))
-    given_at secret none (Exits pattern) alike shown = (alike.output, alike.gives)
+      given_at : (secret : List ℕ) → found.stopped ≡ 0 → (e : PathEnd) → EndsPath task limits secret e → Shows found e →
+          (output : Output) × Gives task limits secret output
+      given_at secret none (Unclear why) alike shown = absurd shown
+      given_at secret none (Stops stop) alike shown = absurd (omega (arith, none, shown))
+      given_at secret none (Exits pattern) alike shown = (alike.output, alike.gives)
 
-    pub every : regions ≡ [] → found.stopped ≡ 0 → (secret : List ℕ) → IsSecret task secret →
-        (output : Output) × Gives task limits secret output
-    every empty none secret is =
-        let unbroken = unbroken_after task.enclosures limits.turns (real_start task secret) empty refl in
-        elim (chosen secret is unbroken) [
-          | inl choice ↦ given_at secret none choice.ends choice.alike (path_shows secret choice)
-          | inr lost ↦ absurd (lost.lists empty)
-        ]
+      pub every : regions ≡ [] → found.stopped ≡ 0 → (secret : List ℕ) → IsSecret task secret →
+          (output : Output) × Gives task limits secret output
+      every empty none secret is =
+          let unbroken = unbroken_after task.enclosures limits.turns (real_start task secret) empty refl in
+          elim (chosen secret is unbroken) [
+            | inl choice ↦ given_at secret none choice.ends choice.alike (path_shows secret choice)
+            | inr lost ↦ absurd (lost.lists empty)
+          ]
 
 -- outputs each of which is listed are few
 pub few_listed : (patterns : List Pattern) → AllByRecursion HasWords patterns → (P : Output → Type 0) →

@@ -1,17 +1,12 @@
-//! What is looked at where a walk enters a region or skips it.
+//! The base registers of a region that a walk enters or skips: none of them may differ.
 
-ghost use Rattle.std.specs.Prelude.{◌≡◌, Some, None, IsTrue};
+ghost use Rattle.std.specs.Prelude.{◌≡◌, IsTrue};
 ghost use Rattle.std.specs.List.{list_all};
-ghost use Rattle.enclosure_regions.specs.Breaks.{outside_range};
-ghost use Rattle.enclosure_regions.specs.Regions.{is_base_register, is_range, is_region};
-ghost use Rattle.region_machine.specs.Within.{are_inside};
-ghost use Rattle.replay_machine.specs.ReplayTurns.{outside_of};
+ghost use Rattle.enclosure_regions.specs.Regions.{is_base_register, is_range};
 ghost use Rattle.tracked_run.specs.Labels.{map_of};
 ghost use Rattle.every_secret.specs.Turns.{secret_base as base_secret, secret_or as or_secret};
 
-use enclosure_regions::{Range, Region, first_outside};
-use replay_machine::Outside;
-use rv32im_machine::Machine;
+use enclosure_regions::Range;
 use shadow_masks::Shadow;
 
 /// A base register, where it may differ, or the first of the others.
@@ -42,21 +37,4 @@ pub(crate) fn secret_base(shadow: &Shadow, ranges: &[Range]) -> Option<u8>
     };
     let later = secret_base(shadow, more);
     secret_or(shadow, range.base, later)
-}
-
-/// The first range that is not inside guest memory at the entry of a region.
-pub(crate) fn outside_at_entry(machine: &Machine, region: &Region) -> Option<Outside>
-    requires { IsTrue (is_region region.now) }
-    ensures outside { result ≡
-        outside_of region.now (outside_range region.now machine.now.store.registers machine.now.setting.base) }
-    ensures inside { result ≡ None →
-        IsTrue (are_inside region.now.ranges machine.now.store.registers machine.now.setting.base) }
-{
-    match first_outside(region, machine.registers(), machine.base()) {
-        Some(range) => Some(Outside {
-            region: region.id,
-            range,
-        }),
-        None => None,
-    }
 }

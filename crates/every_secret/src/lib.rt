@@ -33,8 +33,8 @@ mod whys;
 
 pub use bounds::bound;
 pub use laws::{
-    bounds_tell_of_all_pairs, bounds_tell_of_all_secrets, runs_choose_paths, same_states_have_the_same_below,
-    tables_are_sound, tables_have_rules,
+    bounds_tell_of_all_pairs, bounds_tell_of_all_secrets, runs_choose_paths,
+    same_states_have_the_same_below, tables_are_sound, tables_have_rules,
 };
 pub use numbers::{free_bits, output_bits, output_count};
 pub use patterns::Pattern;

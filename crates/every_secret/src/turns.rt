@@ -3,11 +3,8 @@ ghost use Rattle.flow_base.specs.declared.points.Point.{Point as ThePoint};
 ghost use Rattle.enclosure_regions.specs.declared.region_parts.Region.{Region as TheRegion};
 ghost use Rattle.enclosure_regions.specs.Regions.{is_region};
 ghost use Rattle.region_machine.specs.Enclosures.{Enters, Steps, kind_of};
-ghost use Rattle.region_machine.specs.Within.{are_inside, can_leave, has_rules, may_leave, seen};
+ghost use Rattle.region_machine.specs.Within.{can_leave, has_rules, may_leave, seen};
 ghost use Rattle.replay_machine.specs.declared.outsides.Outside.{Outside as TheOutside};
-ghost use Rattle.replay_machine.specs.ReplayTurns.{entry_walk};
-ghost use Rattle.rv32im_machine.specs.Playing.{Knows, outcome};
-ghost use Rattle.run_labels.specs.Runs.{entered_number as number_entered};
 ghost use Rattle.lockstep_replay.specs.Tasks.{Task};
 ghost use Rattle.every_secret.specs.Masked.{MaskedPlace};
 ghost use Rattle.every_secret.specs.Rules.{Rules};
@@ -15,26 +12,15 @@ ghost use Rattle.every_secret.specs.Private.Tapes.{AreRulesOf, HoldsPlace, Lengt
 ghost use Rattle.every_secret.specs.Private.Turning.{IsReady, MakesFed, MakesKind};
 ghost use Rattle.every_secret.specs.Turns.{masked_turn, skips as is_skip};
 
-use crate::entries::{outside_at_entry, secret_base};
+use crate::entries::secret_base;
 use crate::walking::Walking;
 use crate::whys::UnclearWhy;
 use enclosure_regions::Region;
 use flow_base::NoMemory;
-use region_machine::{GuestTurn, MarkedRegions, enter_by, leave_by, skip_by};
-use replay_machine::Outside;
-use rv32im_machine::{Machine, Passer, turn_by};
-use tracked_run::Held;
-
-/// The number of the region that a turn enters, 0: of none.
-fn entered_number(turn: GuestTurn<'_>) -> u16
-    ensures { result ≡ number_entered (seen turn.entry) }
-{
-    match turn {
-        GuestTurn::Enters(region) => region.id,
-        GuestTurn::Leaves(_) => 0,
-        GuestTurn::Steps(_) => 0,
-    }
-}
+use region_machine::{GuestTurn, MarkedRegions, leave_by};
+use replay_machine::{Outside, outside_at_entry, skip_or_enter};
+use rv32im_machine::{Machine, turn_by};
+use tracked_run::{Held, entered_number};
 
 /// Whether a turn is the skip of one of the regions with these numbers.
 fn skips(turn: GuestTurn<'_>, skip: &[u16]) -> bool
@@ -45,29 +31,6 @@ fn skips(turn: GuestTurn<'_>, skip: &[u16]) -> bool
         GuestTurn::Enters(region) => skip.contains(&region.id),
         GuestTurn::Leaves(_) => false,
         GuestTurn::Steps(_) => false,
-    }
-}
-
-/// The entry of a region in a replay: its skip, if it is one of those that are skipped.
-fn skip_or_enter<P: Passer>(
-    machine: &mut Machine,
-    passer: &mut P,
-    region: &Region,
-    skip: &[u16],
-) -> Result<(), P::Stop>
-    requires memory { Knows (P.memory passer.old) machine.old.setting.base }
-    requires rules { IsTrue (is_region region.now) }
-    requires inside { IsTrue (are_inside region.now.ranges machine.old.store.registers machine.old.setting.base) }
-    ensures plays { (regions : Seq TheRegion) →
-        P.Plays passer.old (entry_walk (record { regions = regions; skip = skip.now }) region.now machine.old)
-        (outcome result machine.new (P.tape passer.new)) }
-    ensures memory { P.memory passer.new ≡ P.memory passer.old }
-    ensures setting { machine.new.setting ≡ machine.old.setting }
-{
-    if skip.contains(&region.id) {
-        skip_by(machine, passer, region)
-    } else {
-        enter_by(machine, passer, region)
     }
 }
 

@@ -4,6 +4,7 @@
 mod copies;
 mod cursors;
 mod cut_tables;
+mod entries;
 mod equality;
 mod lent_visits;
 mod marking;
@@ -19,6 +20,7 @@ mod turns;
 mod visit_masks;
 
 pub use cut_tables::CutTable;
+pub use entries::{outside_at_entry, skip_or_enter};
 pub use lent_visits::LentVisits;
 pub use marks::Mark;
 pub use outsides::Outside;

@@ -3,41 +3,23 @@ ghost use Rattle.flow_base.specs.declared.points.Point.{Point as ThePoint};
 ghost use Rattle.crossing_bits.specs.Askers.{feed};
 ghost use Rattle.crossing_bits.specs.Streams.{left_of};
 ghost use Rattle.enclosure_regions.specs.declared.region_parts.Region.{Region as TheRegion};
-ghost use Rattle.enclosure_regions.specs.Regions.{is_region};
 ghost use Rattle.replay_machine.specs.Runs.{Masks, replayed};
 ghost use Rattle.replay_machine.specs.Visits.{IsAhead};
 ghost use Rattle.replay_machine.specs.Private.Sides.{Side, Comes};
 ghost use Rattle.replay_machine.specs.ReplayTurns.{replay_kind_walk, replay_walk};
-ghost use Rattle.replay_machine.specs.ReplayTurns.{kind_outside_range, outside_of, range_outside};
+ghost use Rattle.replay_machine.specs.ReplayTurns.{kind_outside_range, range_outside};
 ghost use Rattle.enclosure_regions.specs.Breaks.{outside_range};
-ghost use Rattle.region_machine.specs.Within.{are_inside, can_leave, can_skip, has_rules, may_leave, seen};
+ghost use Rattle.region_machine.specs.Within.{can_leave, can_skip, has_rules, may_leave, seen};
 
+use crate::entries::outside_at_entry;
 use crate::outsides::Outside;
 use crate::replay_turns::replay_turn_by;
 use crate::replays::Replaying;
 use crossing_bits::Bits;
-use enclosure_regions::{Region, first_outside};
+use enclosure_regions::Region;
 use region_machine::{GuestTurn, MarkedRegions};
 use rv32im_machine::Machine;
 use std::mem;
-
-/// The first range that is not inside guest memory at the entry of a region.
-#[inline(always)]
-fn outside_at_entry(machine: &Machine, region: &Region) -> Option<Outside>
-    requires { IsTrue (is_region region.now) }
-    ensures outside { result ≡
-        outside_of region.now (outside_range region.now machine.now.store.registers machine.now.setting.base) }
-    ensures inside { result ≡ None →
-        IsTrue (are_inside region.now.ranges machine.now.store.registers machine.now.setting.base) }
-{
-    match first_outside(region, machine.registers(), machine.base()) {
-        Some(range) => Some(Outside {
-            region: region.id,
-            range,
-        }),
-        None => None,
-    }
-}
 
 /// The first range that is not inside guest memory, where the turn is an entry.
 #[inline(always)]

@@ -1,34 +1,12 @@
 ghost use Rattle.std.specs.Prelude.{◌≡◌, IsTrue, List as Seq};
 ghost use Rattle.rv32im_machine.specs.Playing.{Knows, outcome};
 ghost use Rattle.enclosure_regions.specs.declared.region_parts.Region.{Region as TheRegion};
-ghost use Rattle.enclosure_regions.specs.Regions.{is_region};
-ghost use Rattle.replay_machine.specs.ReplayTurns.{entry_walk, replay_kind_walk};
-ghost use Rattle.region_machine.specs.Within.{are_inside, can_leave, can_skip, has_rules, seen};
+ghost use Rattle.replay_machine.specs.ReplayTurns.{replay_kind_walk};
+ghost use Rattle.region_machine.specs.Within.{can_leave, can_skip, has_rules, seen};
 
-use enclosure_regions::Region;
-use region_machine::{GuestTurn, enter_by, leave_by, skip_by};
+use crate::entries::skip_or_enter;
+use region_machine::{GuestTurn, leave_by};
 use rv32im_machine::{Machine, Passer, turn_by};
-
-/// The entry of a region in a replay: its skip, if it is one of those that are skipped.
-fn skip_or_enter<P: Passer>(
-    machine: &mut Machine,
-    passer: &mut P,
-    region: &Region,
-    skip: &[u16],
-) -> Result<(), P::Stop>
-    requires memory { Knows (P.memory passer.old) machine.old.setting.base }
-    requires rules { IsTrue (is_region region.now) }
-    requires inside { IsTrue (are_inside region.now.ranges machine.old.store.registers machine.old.setting.base) }
-    ensures { (regions : Seq TheRegion) →
-        P.Plays passer.old (entry_walk (record { regions = regions; skip = skip.now }) region.now machine.old)
-        (outcome result machine.new (P.tape passer.new)) }
-{
-    if skip.contains(&region.id) {
-        skip_by(machine, passer, region)
-    } else {
-        enter_by(machine, passer, region)
-    }
-}
 
 /// A turn of this kind of a replay that skips the regions with these numbers.
 #[inline(always)]

@@ -2,7 +2,6 @@ ghost use Rattle.std.specs.Prelude.{◌≡◌, List as Seq, Bool as Truth, IfOk,
 ghost use Rattle.enclosure_regions.specs.declared.region_parts.Region.{Region as TheRegion};
 ghost use Rattle.region_machine.specs.Enclosures.{Steps, is_enclosed_kind, kind_of};
 ghost use Rattle.region_machine.specs.Within.{seen};
-ghost use Rattle.run_labels.specs.Runs.{entered_number as number_entered};
 ghost use Rattle.lockstep_replay.specs.Tasks.{Task, Limits};
 ghost use Rattle.taint_check.specs.Cleared.{MaskedRun, is_hidden, leaves_skipped as is_skipped_leave};
 ghost use Rattle.taint_check.specs.Reasons.{unclear_of};
@@ -16,18 +15,7 @@ use enclosure_regions::Break;
 use flow_base::NoMemory;
 use region_machine::{GuestTurn, MarkedRegions, real_turn_by};
 use rv32im_machine::{Machine, turn_by};
-use tracked_run::Held;
-
-/// The number of the region that a turn enters, 0: of none.
-fn entered_number(turn: GuestTurn<'_>) -> u16
-    ensures { result ≡ number_entered (seen turn.entry) }
-{
-    match turn {
-        GuestTurn::Enters(region) => region.id,
-        GuestTurn::Leaves(_) => 0,
-        GuestTurn::Steps(_) => 0,
-    }
-}
+use tracked_run::{Held, entered_number};
 
 /// Whether a turn is the leave of one of the regions with these numbers.
 fn leaves_skipped(turn: GuestTurn<'_>, skip: &[u16]) -> bool

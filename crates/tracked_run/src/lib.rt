@@ -24,3 +24,4 @@ pub use placing::{labelled, put_aimed};
 pub use rule_answers::answer_of;
 pub use source_masks::{SourceMasks, masks_of_sources};
 pub use tracked::Tracked;
+pub use turns::entered_number;

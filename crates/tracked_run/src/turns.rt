@@ -1,7 +1,7 @@
 ghost use Rattle.std.specs.Prelude.{◌≡◌, None, Ok, IfOk, IsTrue};
 ghost use Rattle.tracked_run.specs.Labels.{clean_held};
 ghost use Rattle.region_machine.specs.Enclosures.{kind_of};
-ghost use Rattle.region_machine.specs.Within.{may_leave};
+ghost use Rattle.region_machine.specs.Within.{may_leave, seen};
 ghost use Rattle.run_labels.specs.Runs.{LabelledRun, broken_fault, stopped_fault, entered_number as number_entered};
 ghost use Rattle.tracked_run.specs.Outcomes.{fault_of, spent_by, turn_answer};
 ghost use Rattle.tracked_run.specs.Runs.{Stands, Turns};
@@ -19,12 +19,12 @@ use rv32im_machine::{Machine, Stepped};
 use shadow_masks::Shadow;
 use transfer_rules::RuleBook;
 
-/// The number of the region that a machine enters in its next turn, 0: of none.
+/// The number of the region that a turn enters, 0: of none.
 #[inline(always)]
-fn entered_number(machine: &Machine, marked: &MarkedRegions) -> u16
-    ensures { result ≡ number_entered (kind_of marked.now.regions.items machine.now.control) }
+pub fn entered_number(turn: GuestTurn<'_>) -> u16
+    ensures { result ≡ number_entered (seen turn.entry) }
 {
-    match marked.next_turn(machine) {
+    match turn {
         GuestTurn::Enters(region) => region.id,
         GuestTurn::Leaves(_) => 0,
         GuestTurn::Steps(_) => 0,
@@ -131,7 +131,7 @@ pub(crate) fn make_turn<E: Events>(
     ensures base { spent_by result ≡ None → shadow.new.base ≡ machine.new.setting.base }
     ensures leave { spent_by result ≡ None → IsTrue (may_leave marked.now.regions.items machine.new) }
 {
-    let region = entered_number(machine, marked);
+    let region = entered_number(marked.next_turn(machine));
     let mut side = Tracking {
         shadow,
         events,

@@ -1,6 +1,6 @@
 use Rattle.std.proofs.Common.{sym}
 use Rattle.region_machine.proofs.RangesStayInside.{inside_at_entry}
-use Rattle.replay_machine.proofs.playing.outside_at_entry.Goals as goal
+use Rattle.replay_machine.proofs.entries.outside_at_entry.Goals as goal
 
 pub returns-in-None-clause-inside : goal.returns-in-None-clause-inside
 returns-in-None-clause-inside c = λ none.

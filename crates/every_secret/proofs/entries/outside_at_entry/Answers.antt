@@ -1,8 +1,0 @@
-use Rattle.std.proofs.Common.{sym}
-use Rattle.region_machine.proofs.RangesStayInside.{inside_at_entry}
-use Rattle.every_secret.proofs.entries.outside_at_entry.Goals as goal
-
-pub returns-in-None-clause-inside : goal.returns-in-None-clause-inside
-returns-in-None-clause-inside c = λ none.
-    inside_at_entry c.args.region.now c.args.machine.now.store.registers c.args.machine.now.setting.base
-    (sym (rw (c.registers.ensures, c.base.ensures) at c.in-None.ensures))
