@@ -16,7 +16,6 @@ use crate::outsides::Outside;
 use crate::replay_turns::replay_turn_by;
 use crate::replays::Replaying;
 use crossing_bits::Bits;
-use enclosure_regions::Region;
 use region_machine::{GuestTurn, MarkedRegions};
 use rv32im_machine::Machine;
 use std::mem;
