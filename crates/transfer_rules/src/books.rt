@@ -28,8 +28,13 @@ macro_rules! book_1 {
                 $crate::Rule::new($crate::Class::Sltu, 1, $crate::sltu_1),
                 $crate::Rule::new($crate::Class::Equal, 1, $crate::equal_1),
                 $crate::Rule::new($crate::Class::Mul, 1, $crate::mul_1),
-                $crate::Rule::new($crate::Class::High, 1, $crate::high_1),
+                $crate::Rule::new($crate::Class::Mulh, 1, $crate::high_1),
+                $crate::Rule::new($crate::Class::Mulhsu, 1, $crate::high_1),
+                $crate::Rule::new($crate::Class::Mulhu, 1, $crate::high_1),
                 $crate::Rule::new($crate::Class::Div, 1, $crate::div_1),
+                $crate::Rule::new($crate::Class::Divu, 1, $crate::div_1),
+                $crate::Rule::new($crate::Class::Rem, 1, $crate::div_1),
+                $crate::Rule::new($crate::Class::Remu, 1, $crate::div_1),
             ],
         )
     };
@@ -54,8 +59,13 @@ macro_rules! book_2 {
                 $crate::Rule::new($crate::Class::Sltu, 2, $crate::sltu_2),
                 $crate::Rule::new($crate::Class::Equal, 2, $crate::equal_2),
                 $crate::Rule::new($crate::Class::Mul, 2, $crate::mul_2),
-                $crate::Rule::new($crate::Class::High, 2, $crate::high_1),
+                $crate::Rule::new($crate::Class::Mulh, 2, $crate::high_1),
+                $crate::Rule::new($crate::Class::Mulhsu, 2, $crate::high_1),
+                $crate::Rule::new($crate::Class::Mulhu, 2, $crate::high_1),
                 $crate::Rule::new($crate::Class::Div, 2, $crate::div_1),
+                $crate::Rule::new($crate::Class::Divu, 2, $crate::div_1),
+                $crate::Rule::new($crate::Class::Rem, 2, $crate::div_1),
+                $crate::Rule::new($crate::Class::Remu, 2, $crate::div_1),
             ],
         )
     };
