@@ -9,6 +9,8 @@ pub mod Operations
 pub mod Orders
 mod Places
 pub mod Products
+mod RangeMasks
 pub mod Results
 pub mod Shifts
+pub mod Spans
 pub mod Sums

@@ -196,7 +196,7 @@ product_keeps o words a b p q h k =
 unless_fits : (t : Bool) → word_of_truth (not t) < 2
 unless_fits t = truth_fits (not t)
 
-narrow :
+pub narrow :
     (class : Class) (o : Operands) → AreWords o → Each (operations class) (KeepsMask o (mask_by_table_2 class o))
 narrow Add o words = (sum_keeps o words, (sum_keeps o words, tt))
 narrow Sub o words = (difference_keeps o words, tt)

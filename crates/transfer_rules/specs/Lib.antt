@@ -3,4 +3,5 @@ pub mod Operations
 pub mod Soundness
 pub mod Table1
 pub mod Table2
+pub mod Table3
 pub mod Tables

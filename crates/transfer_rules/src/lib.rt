@@ -1,4 +1,4 @@
-//! Which bits of a result are secret: the mask rules of two tables, one for each class of operations of RV32IM, and
+//! Which bits of a result are secret: the mask rules of three tables, one for each class of operations of RV32IM, and
 //! books of rules that are stored as functions beside the fact of what they answer.
 #![tactic(auto)]
 
@@ -6,10 +6,12 @@ mod book;
 mod books;
 mod classes;
 mod operands;
+mod ranges;
 mod rule;
 mod rules;
 mod table_1;
 mod table_2;
+mod table_3;
 
 pub use book::RuleBook;
 pub use books::masks_of_both;
@@ -22,3 +24,4 @@ pub use table_1::{
     xor_1,
 };
 pub use table_2::{add_2, equal_2, mul_2, slt_2, sltu_2, sub_2};
+pub use table_3::{div_3, divu_3, mul_3, mulh_3, mulhsu_3, mulhu_3, rem_3, remu_3};
