@@ -11,6 +11,7 @@ mod Places
 pub mod Products
 mod RangeMasks
 pub mod Results
+pub mod ShiftRanges
 pub mod Shifts
 pub mod Spans
 pub mod Sums

@@ -1,5 +1,6 @@
 pub mod Classes
 pub mod Operations
+pub mod ShiftRanges
 pub mod Soundness
 pub mod Table1
 pub mod Table2

@@ -9,6 +9,7 @@ mod operands;
 mod ranges;
 mod rule;
 mod rules;
+mod shifts_3;
 mod table_1;
 mod table_2;
 mod table_3;
@@ -19,6 +20,7 @@ pub use classes::{Class, class_of, class_of_branch, class_of_operation};
 pub use operands::Operands;
 pub use rule::Rule;
 pub use rules::{address_mask, mask_of, target_mask};
+pub use shifts_3::{sll_3, sra_3, srl_3};
 pub use table_1::{
     add_1, and_1, div_1, equal_1, high_1, mul_1, or_1, sll_1, slt_1, sltu_1, sra_1, srl_1, sub_1,
     xor_1,
