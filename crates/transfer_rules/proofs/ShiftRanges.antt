@@ -6,7 +6,7 @@ use Rattle.std.specs.Prelude.{◌==◌, bit_and, bit_or, bit_xor, if◌then◌el
 use Rattle.std.specs.Int.{bit_at}
 use Rattle.std.specs.Int.Bits.{or_zero_l, and_zero_r}
 use Rattle.std.proofs.lemmas.Bool.{cases_lt, cases_Bool, false≢true, false_from_ne_true}
-use Rattle.std.proofs.lemmas.Nat.{mod_below, or_lt}
+use Rattle.std.proofs.lemmas.Nat.{and_le_l, mod_below, or_lt}
 use Rattle.std.proofs.lemmas.Nat.Bits.{bit_at_and, bit_at_or, bit_at_xor, bit_at-zero, bit_at_above, bit_at-lt}
 use Rattle.std.proofs.lemmas.Nat.Bits.{same_from_bits, same_from_bits_below}
 use Rattle.flow_base.specs.Words.{Agree}
@@ -377,3 +377,26 @@ pub keeps_by_range :
     KeepsMask o mask (op_result kind)
 keeps_by_range o kind mask words may e =
     subst (λ x. KeepsMask o x (op_result kind)) (sym e) (range_keeps o kind words may)
+
+-- ---- the mask is a word
+
+some_fits :
+    (o : Operands) (word_of : ℕ → ℕ) (bound : ℕ) → ((amount : ℕ) → word_of amount < 2 ^ 32) →
+    in_some o word_of bound < 2 ^ 32
+some_fits o word_of zero fits = omega (arith, amounts_none o word_of)
+some_fits o word_of (suc bound) fits =
+    let before : in_some o word_of bound < 2 ^ 32 = some_fits o word_of bound fits in
+    ⊎_elim
+    (λ taken. subst (λ n. n < 2 ^ 32) (sym (amounts_more o word_of bound taken))
+    (or_lt 32 (in_some o word_of bound) (word_of bound) before (fits bound)))
+    (λ skipped. subst (λ n. n < 2 ^ 32) (sym (amounts_skip o word_of bound skipped)) before)
+    (cases_Bool (may_shift_by o bound))
+
+pub range_fits : (o : Operands) (kind : OpKind) → AreWords o → IsTrue (is_shift kind) → shift_range o kind < 2 ^ 32
+range_fits o kind words may =
+    let mosts = in_some o (λ n. op_result kind (greatest o.v1 o.m1) n) 32 in
+    let leasts = in_some o (λ n. flipped (op_result kind (least o.v1 o.m1) n)) 32 in
+    let small : mosts < 2 ^ 32 =
+    some_fits o (λ n. op_result kind (greatest o.v1 o.m1) n) 32
+    (λ amount. (shifts kind may).fits (greatest o.v1 o.m1) amount (greatest_fits o.v1 o.m1 words.0 words.1)) in
+    omega (arith, small, and_le_l mosts leasts)
