@@ -5,6 +5,7 @@ pub mod Carries
 pub mod Instructions
 pub mod Masks
 pub mod NarrowMasks
+mod NoWider
 pub mod Operations
 pub mod Orders
 mod Places

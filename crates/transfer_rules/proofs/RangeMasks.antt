@@ -27,6 +27,7 @@ use Rattle.transfer_rules.proofs.Bounds.{in_order}
 use Rattle.transfer_rules.proofs.NarrowMasks.{narrow}
 use Rattle.transfer_rules.proofs.Operations.{Each, operations, by_each}
 use Rattle.transfer_rules.proofs.Results.{div_fits, divu_fits, mulh_fits, mulhsu_fits, mulhu_fits, rem_fits, remu_fits}
+use Rattle.transfer_rules.proofs.ShiftRanges.{range_keeps}
 use Rattle.transfer_rules.proofs.Spans.{agree_span, quotient_le}
 
 -- ---- words without a sign
@@ -49,6 +50,17 @@ rem_plain : (a b : ℕ) → a < 2 ^ 31 → b < 2 ^ 31 → op_result op.Rem a b �
 rem_plain a b p q =
     rw (signed_plain a p, signed_plain b q)
     (ap (λ n. if b == 0 then a else n) (omega (arith, p, mod-le a b)))
+
+-- ---- divisors that are not 0
+
+positive : (n : ℕ) → (n == 0) ≡ false → 0 < n
+positive n some = grind (arith, some)
+
+plain_quotient : (a b : ℕ) → 0 < b → op_result op.Divu a b ≡ a / b
+plain_quotient a b divisor = rw (ne_eqb b 0 (λ e. omega (arith, e, divisor))) refl
+
+plain_rest : (a b : ℕ) → 0 < b → op_result op.Remu a b ≡ a % b
+plain_rest a b divisor = rw (ne_eqb b 0 (λ e. omega (arith, e, divisor))) refl
 
 -- ---- the bounds of the operands
 
@@ -161,9 +173,6 @@ module _ (o : Operands) (words : AreWords o) where
         omega (arith, whole, quotient_le first.low second.high a b x.from y.to divisor),
         omega (arith, whole, quotient_le a b first.high second.low x.to y.from least),
       )))
-    where
-      positive : (n : ℕ) → (n == 0) ≡ false → 0 < n
-      positive n some = grind (arith, some)
 
   remainder_keeps : KeepsMask o (remainder_range o.m1 first second) (op_result op.Remu)
   remainder_keeps =
@@ -176,20 +185,14 @@ module _ (o : Operands) (words : AreWords o) where
       let apart : first.high < second.low = ltb-true first.high second.low below in
       same_keeps (op_result op.Remu) (λ a b. a) o.m1
       (λ a b x y.
-      rest a b (omega (arith, least, y.from)) ∙ mod-eq_of_lt (omega (arith, apart, x.to, y.from)))
+      plain_rest a b (omega (arith, least, y.from)) ∙ mod-eq_of_lt (omega (arith, apart, x.to, y.from)))
       (λ a b p q h k. h))
       (λ reached.
       span_keeps (op_result op.Remu) 0 (min first.high (second.high - 1))
       (omega (arith, first_fits))
       (λ a b x y.
       let divisor : 0 < b = omega (arith, least, y.from) in
-      (omega arith, omega (arith, rest a b divisor, mod-le a b, mod_below a b divisor, x.to, y.to)))))
-    where
-      positive : (n : ℕ) → (n == 0) ≡ false → 0 < n
-      positive n some = grind (arith, some)
-
-      rest : (a b : ℕ) → 0 < b → op_result op.Remu a b ≡ a % b
-      rest a b divisor = rw (ne_eqb b 0 (λ e. omega (arith, e, divisor))) refl
+      (omega arith, omega (arith, plain_rest a b divisor, mod-le a b, mod_below a b divisor, x.to, y.to)))))
 
   -- ---- signed words
 
@@ -256,9 +259,9 @@ ranged Sub o words = narrow Sub o words
 ranged And o words = narrow And o words
 ranged Or o words = narrow Or o words
 ranged Xor o words = narrow Xor o words
-ranged Sll o words = narrow Sll o words
-ranged Srl o words = narrow Srl o words
-ranged Sra o words = narrow Sra o words
+ranged Sll o words = (range_keeps o op.Sll words refl, tt)
+ranged Srl o words = (range_keeps o op.Srl words refl, tt)
+ranged Sra o words = (range_keeps o op.Sra words refl, tt)
 ranged Slt o words = narrow Slt o words
 ranged Sltu o words = narrow Sltu o words
 ranged Equal o words = narrow Equal o words

@@ -19,7 +19,7 @@ use Rattle.transfer_rules.specs.Soundness.{AreWords, KeepsMask}
 use Rattle.transfer_rules.specs.Table1.{flipped, shift_mask}
 use Rattle.transfer_rules.specs.Table2.{least, greatest}
 use Rattle.transfer_rules.proofs.Agreement.{bit_low}
-use Rattle.transfer_rules.proofs.BitRules.{bit_flipped}
+use Rattle.transfer_rules.proofs.BitRules.{bit_flipped, none_outside}
 use Rattle.transfer_rules.proofs.Bounds.{between, bit_least, bit_greatest, least_fits}
 use Rattle.transfer_rules.proofs.Shifts.{left_low, left_high, right_bit, sign_bit, left_fits, right_fits, signed_fits}
 
@@ -340,27 +340,12 @@ range_keeps o kind words may first second p q h k i none =
 
 -- ---- nowhere wider than table 1
 
-apart : (x : ℕ) → x < 2 ^ 32 → bit_and x (flipped x) ≡ 0
-apart x fits = same_from_bits (bit_and x (flipped x)) 0
-    (λ i. bit_at_and x (flipped x) i
-    ∙ ⊎_elim
-    (λ inside. ap (min (bit_at x i)) (bit_flipped x i fits inside) ∙ one (bit_at x i) (bit_at-lt x i))
-    (λ above. gone (bit_at x i) (bit_at (flipped x) i) (bit_at_above x 32 i fits above))
-    (cases_lt i 32)
-    ∙ sym (bit_at-zero i))
-  where
-    one : (b : ℕ) → b < 2 → min b (1 - b) ≡ 0
-    one b below = omega arith
-
-    gone : (a b : ℕ) → a ≡ 0 → min a b ≡ 0
-    gone a b none = omega arith
-
 narrower_by :
-    (range shifted low : ℕ) → shifted < 2 ^ 32 → (low ≡ 0 → shifted ≡ range) →
+    (range shifted low : ℕ) → (low ≡ 0 → shifted ≡ range) →
     bit_and range (flipped (if low == 0 then shifted else 4294967295)) ≡ 0
-narrower_by range shifted zero fits same =
-    subst (λ x. bit_and x (flipped shifted) ≡ 0) (same refl) (apart shifted fits)
-narrower_by range shifted (suc low) fits same =
+narrower_by range shifted zero same =
+    subst (λ x. bit_and x (flipped shifted) ≡ 0) (same refl) (none_outside shifted)
+narrower_by range shifted (suc low) same =
     let all : (if suc low == 0 then shifted else 4294967295) ≡ 4294967295 = grind arith in
     ap (λ x. bit_and range (flipped x)) all ∙ and_zero_r range
 
@@ -369,7 +354,7 @@ pub range_is_narrower :
     (o : Operands) (kind : OpKind) → AreWords o → IsTrue (is_shift kind) →
     bit_and (shift_range o kind) (flipped (shift_mask o kind)) ≡ 0
 range_is_narrower o kind words may =
-    narrower_by (shift_range o kind) (op_result kind o.m1 o.v2) (o.m2 % 32) ((shifts kind may).fits o.m1 o.v2 words.1)
+    narrower_by (shift_range o kind) (op_result kind o.m1 o.v2) (o.m2 % 32)
     (one_amount o kind words may)
 
 pub keeps_by_range :

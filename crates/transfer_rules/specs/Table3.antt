@@ -1,11 +1,14 @@
--- Table 3: narrower masks for products, quotients and remainders, from the least and the greatest word that each
--- operand, and so the result, may be. The other classes are as in table 2.
+-- Table 3: narrower masks for products, quotients, remainders and shifts, from the least and the greatest word that
+-- each operand, and so the result, may be. The other classes are as in table 2.
 use Rattle.std.specs.Prelude.{ℕ, ◌-◌, ◌*◌, ◌/◌, ◌^◌, ◌≡◌, ◌==◌, nat_lt, min, bit_and, bit_xor, if◌then◌else◌}
 use Rattle.std.specs.Int.{leading_zeros, w32}
+use Rattle.rv32im_decode.specs.declared.instructions.OpKind.TheVariants as op
 use Rattle.transfer_rules.specs.declared.classes.Class.{Class}
-use Rattle.transfer_rules.specs.declared.classes.Class.TheVariants.{Mul, Mulh, Mulhsu, Mulhu, Div, Divu, Rem, Remu}
+use Rattle.transfer_rules.specs.declared.classes.Class.TheVariants.{Sll, Srl, Sra, Mul, Mulh, Mulhsu, Mulhu, Div}
+use Rattle.transfer_rules.specs.declared.classes.Class.TheVariants.{Divu, Rem, Remu}
 use Rattle.transfer_rules.specs.declared.operands.Operands.{Operands}
 use Rattle.transfer_rules.specs.declared.ranges.Bounds.{Bounds}
+use Rattle.transfer_rules.specs.ShiftRanges.{shift_range}
 use Rattle.transfer_rules.specs.Table1.{either, flipped}
 use Rattle.transfer_rules.specs.Table2.{least, greatest, mask_by_table_2}
 
@@ -56,6 +59,9 @@ mask_by_table_3 Div o = if_secret o (λ x y. unless_signed x.high (unless_signed
 mask_by_table_3 Divu o = if_secret o quotient_range
 mask_by_table_3 Rem o = if_secret o (λ x y. unless_signed x.high (unless_signed y.high (remainder_range o.m1 x y)))
 mask_by_table_3 Remu o = if_secret o (remainder_range o.m1)
+mask_by_table_3 Sll o = shift_range o op.Sll
+mask_by_table_3 Srl o = shift_range o op.Srl
+mask_by_table_3 Sra o = shift_range o op.Sra
 mask_by_table_3 other o = mask_by_table_2 other o
 
 -- table 3 has no bit that table 2 has not

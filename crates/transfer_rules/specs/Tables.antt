@@ -9,16 +9,18 @@ use Rattle.transfer_rules.specs.declared.classes.Class.TheVariants.{Equal, Mul, 
 use Rattle.transfer_rules.specs.declared.operands.Operands.{Operands}
 use Rattle.transfer_rules.specs.Table1.{mask_by_table_1}
 use Rattle.transfer_rules.specs.Table2.{mask_by_table_2}
+use Rattle.transfer_rules.specs.Table3.{mask_by_table_3}
 
 -- a table gives a mask for each class
 abbrev pub Table : Type 0
 Table = Class → Operands → ℕ
 
--- of table 1 and of table 2 a mask, or what is made of masks, is what the table wants; of any other table, as table 0,
+-- of tables 1, 2 and 3 a mask, or what is made of masks, is what the table wants; of any other table, as table 0,
 -- nothing is said
 abbrev pub IsByTable : {X : Type 0} → ℕ → (Table → X) → X → Type 0
 IsByTable table wanted found =
     (table ≡ 1 → found ≡ wanted mask_by_table_1) × (table ≡ 2 → found ≡ wanted mask_by_table_2)
+    × (table ≡ 3 → found ≡ wanted mask_by_table_3)
 
 -- a word and an immediate, as the operands of a sum
 abbrev pub sum_operands : ℕ → ℕ → ℤ → Operands
@@ -41,7 +43,7 @@ classes_in_order =
     Add ∷ Sub ∷ And ∷ Or ∷ Xor ∷ Sll ∷ Srl ∷ Sra ∷ Slt ∷ Sltu ∷ Equal ∷ Mul ∷ Mulh ∷ Mulhsu ∷ Mulhu ∷ Div ∷ Divu ∷ Rem
     ∷ Remu ∷ []
 
--- tables 1 and 2 say what each answer of a mask rule is; of the answers of other books nothing but their soundness is
--- known
+-- tables 1, 2 and 3 say what each answer of a mask rule is; of the answers of other books nothing but their soundness
+-- is known
 abbrev pub IsDeciding : ℕ → Type 0
-IsDeciding table = (table ≡ 1) ⊎ (table ≡ 2)
+IsDeciding table = (table ≡ 1) ⊎ ((table ≡ 2) ⊎ (table ≡ 3))

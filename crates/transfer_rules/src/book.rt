@@ -8,7 +8,7 @@ use crate::classes::Class;
 use crate::operands::Operands;
 use crate::rule::Rule;
 
-/// The rules of the nineteen classes, in the order of the classes, all of one table: 1, 2, or 0 where nothing but their
+/// The rules of the nineteen classes, in the order of the classes, all of one table: 1, 2, 3, or 0 where nothing but their
 /// soundness is known.
 #[derive(Drop)]
 pub struct RuleBook {

@@ -15,7 +15,7 @@ mod table_2;
 mod table_3;
 
 pub use book::RuleBook;
-pub use books::masks_of_both;
+pub use books::{bits_beyond_table_2, masks_of_all};
 pub use classes::{Class, class_of, class_of_branch, class_of_operation};
 pub use operands::Operands;
 pub use rule::Rule;

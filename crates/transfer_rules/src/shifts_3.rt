@@ -3,9 +3,9 @@
 //! are, the shift gives the same bits outside the mask.
 
 ghost use Rattle.std.specs.Prelude.{◌≡◌, IsTrue};
-ghost use Rattle.rv32im_decode.specs.declared.instructions.OpKind.TheVariants as op;
 ghost use Rattle.transfer_rules.specs.ShiftRanges.{is_shift, may_shift_by, shift_range};
 ghost use Rattle.transfer_rules.specs.Soundness.{IsSound};
+ghost use Rattle.transfer_rules.specs.Table3.{mask_by_table_3};
 ghost use Rattle.transfer_rules.specs.declared.classes.Class.TheVariants.{Sll, Srl, Sra};
 
 use crate::operands::Operands;
@@ -14,7 +14,7 @@ use rv32im_decode::OpKind;
 /// The mask of a shift to the left: of all amounts that the second operand may be, the bits that are 1 in some greatest
 /// word shifted and 0 in some least word shifted.
 pub fn sll_3(operands: Operands) -> u32
-    ensures table { result ≡ shift_range operands op.Sll }
+    ensures table { result ≡ mask_by_table_3 Sll operands }
     ensures sound { IsSound Sll operands result }
 {
     range_of_shift(operands, OpKind::Sll)
@@ -23,7 +23,7 @@ pub fn sll_3(operands: Operands) -> u32
 /// The mask of a shift to the right: of all amounts that the second operand may be, the bits that are 1 in some greatest
 /// word shifted and 0 in some least word shifted.
 pub fn srl_3(operands: Operands) -> u32
-    ensures table { result ≡ shift_range operands op.Srl }
+    ensures table { result ≡ mask_by_table_3 Srl operands }
     ensures sound { IsSound Srl operands result }
 {
     range_of_shift(operands, OpKind::Srl)
@@ -32,7 +32,7 @@ pub fn srl_3(operands: Operands) -> u32
 /// The mask of a shift to the right with the sign: of all amounts that the second operand may be, the bits that are 1 in
 /// some greatest word shifted and 0 in some least word shifted, each with its own top bit repeated.
 pub fn sra_3(operands: Operands) -> u32
-    ensures table { result ≡ shift_range operands op.Sra }
+    ensures table { result ≡ mask_by_table_3 Sra operands }
     ensures sound { IsSound Sra operands result }
 {
     range_of_shift(operands, OpKind::Sra)

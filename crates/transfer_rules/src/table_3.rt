@@ -1,6 +1,6 @@
 //! Table 3: narrower masks for products, quotients and remainders, from the least and the greatest that the operands
-//! may be. Each mask is that of the table, and each is sound: whatever the secret bits of the operands are, every
-//! operation of the class gives the same bits outside the mask. The other classes are as in table 2.
+//! may be, beside those for shifts. Each mask is that of the table, and each is sound: whatever the secret bits of the
+//! operands are, every operation of the class gives the same bits outside the mask. The other classes are as in table 2.
 #![tactic(auto, using(crate::proofs::RangeMasks::sound_by_table_3))]
 
 ghost use Rattle.std.specs.Prelude.{◌≡◌};
