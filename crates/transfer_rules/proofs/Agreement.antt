@@ -37,7 +37,7 @@ one_where_some (suc t) a b same p q =
     let one : one_mask (suc t) ≡ 1 = grind arith in subst (λ x. Agree x a b) (sym one) (agree_one a b p q)
 
 -- where no bit of either operand is secret, the operands are equal, and so is every result
-same_result :
+pub same_result :
     (f : ℕ → ℕ → ℕ) (m n v w a b : ℕ) → Agree m v a → Agree n w b → bit_or m n ≡ 0 → f v w ≡ f a b
 same_result f m n v w a b h k e =
     let no_m : m ≡ 0 = omega (arith, e, le_or_l m n) in

@@ -4,6 +4,8 @@ use Rattle.std.proofs.Common.{⊎_elim, arith, w32}
 use Rattle.std.specs.Prelude.{bit_and, bit_or, bit_xor}
 use Rattle.std.specs.Int.{bit_at}
 use Rattle.std.proofs.lemmas.Bool.{cases_lt}
+use Rattle.std.specs.Int.Bits.{and_self, and_zero_r}
+use Rattle.std.proofs.lemmas.Nat.{and-not, and_comm}
 use Rattle.std.proofs.lemmas.Nat.Bits.{bit_at_and, bit_at_or, bit_at_xor, bit_at_above, bit_at_not, bit_at-lt}
 use Rattle.flow_base.specs.Words.{Agree}
 use Rattle.transfer_rules.specs.Table1.{flipped}
@@ -68,3 +70,12 @@ agree_xor m n v w a b h k i none =
     let first : bit_at v i ≡ bit_at a i = h i (omega arith) in
     let second : bit_at w i ≡ bit_at b i = k i (omega arith) in
     bit_at_xor v w i ∙ ap₂ (λ x y. (x + y) % 2) first second ∙ sym (bit_at_xor a b i)
+
+-- no bit of a mask is outside of it
+pub none_outside : (mask : ℕ) → bit_and mask (flipped mask) ≡ 0
+none_outside mask = ⊎_elim
+    (λ word.
+    let apart : bit_and (flipped mask) mask + bit_and mask mask ≡ mask = and-not 32 mask mask word word in
+    omega (arith, apart, and_self mask, and_comm mask (flipped mask)))
+    (λ large. ap (bit_and mask) (omega arith) ∙ and_zero_r mask)
+    (cases_lt mask (2 ^ 32))

@@ -4,7 +4,7 @@ use Rattle.std.proofs.Common.{pow_pos}
 use Rattle.std.specs.Prelude.{bit_and}
 use Rattle.std.specs.Int.{bit_at}
 use Rattle.std.proofs.lemmas.Bool.{cases_lt}
-use Rattle.std.proofs.lemmas.Nat.{and_le_l, and_le_r, mod_below}
+use Rattle.std.proofs.lemmas.Nat.{and_le_l, and_le_r, le_or_l, mod_below}
 use Rattle.std.proofs.lemmas.Nat.Bits.{bit_at_and, bit_at_or, bit_at_above, bit_at-lt, same_from_bits}
 use Rattle.flow_base.specs.Words.{Agree}
 use Rattle.transfer_rules.specs.Table1.{flipped}
@@ -77,6 +77,16 @@ known_bit m v i fv fm none =
   where
     one_known : (a b : ℕ) → a < 2 → b ≡ 0 → min a (1 - b) ≡ max a b
     one_known a b below e = omega arith
+
+pub least_le_greatest : (v m : ℕ) → least v m ≤ greatest v m
+least_le_greatest v m = omega (arith, and_le_l v (flipped m), le_or_l v m)
+
+-- what agrees with an operand outside its mask is a word from the least to the greatest
+pub in_order :
+    (m v a : ℕ) → v < 2 ^ 32 → m < 2 ^ 32 → Agree m v a → (least v m ≤ a) × (a ≤ greatest v m)
+in_order m v a fv fm h =
+    let b = between m v a fv fm h in
+    (le_by_bits (least v m) a b.from, le_by_bits a (greatest v m) b.to)
 
 pub least_fits : (v m : ℕ) → v < 2 ^ 32 → least v m < 2 ^ 32
 least_fits v m fits = omega (arith, fits, and_le_l v (flipped m))

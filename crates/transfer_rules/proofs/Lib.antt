@@ -5,10 +5,14 @@ pub mod Carries
 pub mod Instructions
 pub mod Masks
 pub mod NarrowMasks
+mod NoWider
 pub mod Operations
 pub mod Orders
 mod Places
 pub mod Products
+mod RangeMasks
 pub mod Results
+pub mod ShiftRanges
 pub mod Shifts
+pub mod Spans
 pub mod Sums

@@ -7,7 +7,7 @@ use Rattle.rv32im_decode.specs.declared.instructions.OpKind.TheVariants as op
 use Rattle.rv32im_decode.specs.Operations.{decision, is_taken, op_result, shifted_with_sign}
 use Rattle.transfer_rules.specs.declared.classes.Class.{Class}
 use Rattle.transfer_rules.specs.declared.classes.Class.TheVariants.{Add, Sub, And, Or, Xor, Sll, Srl, Sra, Slt, Sltu}
-use Rattle.transfer_rules.specs.declared.classes.Class.TheVariants.{Equal, Mul, High, Div}
+use Rattle.transfer_rules.specs.declared.classes.Class.TheVariants.{Equal, Mul, Mulh, Mulhsu, Mulhu, Div, Divu, Rem, Remu}
 use Rattle.transfer_rules.specs.declared.operands.Operands.{Operands}
 use Rattle.transfer_rules.specs.Soundness.{AreWords, IsSound, KeepsMask}
 use Rattle.transfer_rules.specs.Table1.{all_mask, either, mask_by_table_1, one_mask, sum_mask}
@@ -80,23 +80,13 @@ sound Sltu o words = (
 )
 sound Equal o words = (decision_keeps o branch.Beq, (decision_keeps o branch.Bne, tt))
 sound Mul o words = (product_keeps o words, tt)
-sound High o words = (
-  word_keeps o words (op_result op.Mulh) mulh_fits,
-  (
-    word_keeps o words (op_result op.Mulhsu) mulhsu_fits,
-    (word_keeps o words (op_result op.Mulhu) mulhu_fits, tt),
-  ),
-)
-sound Div o words = (
-  word_keeps o words (op_result op.Div) (λ x y p q. div_fits x y p),
-  (
-    word_keeps o words (op_result op.Divu) (λ x y p q. divu_fits x y p),
-    (
-      word_keeps o words (op_result op.Rem) (λ x y p q. rem_fits x y p),
-      (word_keeps o words (op_result op.Remu) (λ x y p q. remu_fits x y p), tt),
-    ),
-  ),
-)
+sound Mulh o words = (word_keeps o words (op_result op.Mulh) mulh_fits, tt)
+sound Mulhsu o words = (word_keeps o words (op_result op.Mulhsu) mulhsu_fits, tt)
+sound Mulhu o words = (word_keeps o words (op_result op.Mulhu) mulhu_fits, tt)
+sound Div o words = (word_keeps o words (op_result op.Div) (λ x y p q. div_fits x y p), tt)
+sound Divu o words = (word_keeps o words (op_result op.Divu) (λ x y p q. divu_fits x y p), tt)
+sound Rem o words = (word_keeps o words (op_result op.Rem) (λ x y p q. rem_fits x y p), tt)
+sound Remu o words = (word_keeps o words (op_result op.Remu) (λ x y p q. remu_fits x y p), tt)
 
 -- an answer of the table is sound
 pub sound_by_table_1 :
@@ -140,8 +130,13 @@ widest Equal o words = (
   (small_keeps o words (decision branch.Bne) (λ x y. truth_fits _), tt),
 )
 widest Mul o words = (word_keeps o words (op_result op.Mul) (λ x y p q. omega arith), tt)
-widest High o words = sound High o words
+widest Mulh o words = sound Mulh o words
+widest Mulhsu o words = sound Mulhsu o words
+widest Mulhu o words = sound Mulhu o words
 widest Div o words = sound Div o words
+widest Divu o words = sound Divu o words
+widest Rem o words = sound Rem o words
+widest Remu o words = sound Remu o words
 
 -- all bits where any bit is secret are sound for every class
 pub all_is_sound :

@@ -11,7 +11,7 @@ use Rattle.rv32im_decode.specs.declared.instructions.OpKind.TheVariants as op
 use Rattle.rv32im_decode.specs.Operations.{op_result, signed, word_of_truth}
 use Rattle.transfer_rules.specs.declared.classes.Class.{Class}
 use Rattle.transfer_rules.specs.declared.classes.Class.TheVariants.{Add, Sub, And, Or, Xor, Sll, Srl, Sra, Slt, Sltu}
-use Rattle.transfer_rules.specs.declared.classes.Class.TheVariants.{Equal, Mul, High, Div}
+use Rattle.transfer_rules.specs.declared.classes.Class.TheVariants.{Equal, Mul, Mulh, Mulhsu, Mulhu, Div, Divu, Rem, Remu}
 use Rattle.transfer_rules.specs.declared.operands.Operands.{Operands}
 use Rattle.transfer_rules.specs.Soundness.{AreWords, IsSound, KeepsMask}
 use Rattle.transfer_rules.specs.Table1.{either, flipped}
@@ -196,7 +196,7 @@ product_keeps o words a b p q h k =
 unless_fits : (t : Bool) → word_of_truth (not t) < 2
 unless_fits t = truth_fits (not t)
 
-narrow :
+pub narrow :
     (class : Class) (o : Operands) → AreWords o → Each (operations class) (KeepsMask o (mask_by_table_2 class o))
 narrow Add o words = (sum_keeps o words, (sum_keeps o words, tt))
 narrow Sub o words = (difference_keeps o words, tt)
@@ -222,8 +222,13 @@ narrow Xor o words = sound Xor o words
 narrow Sll o words = sound Sll o words
 narrow Srl o words = sound Srl o words
 narrow Sra o words = sound Sra o words
-narrow High o words = sound High o words
+narrow Mulh o words = sound Mulh o words
+narrow Mulhsu o words = sound Mulhsu o words
+narrow Mulhu o words = sound Mulhu o words
 narrow Div o words = sound Div o words
+narrow Divu o words = sound Divu o words
+narrow Rem o words = sound Rem o words
+narrow Remu o words = sound Remu o words
 
 -- an answer of the table is sound
 pub sound_by_table_2 :

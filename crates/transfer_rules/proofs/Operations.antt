@@ -8,7 +8,7 @@ use Rattle.rv32im_decode.specs.declared.instructions.OpKind.TheVariants as op
 use Rattle.rv32im_decode.specs.Operations.{address_of, decision, op_result}
 use Rattle.transfer_rules.specs.declared.classes.Class.{Class}
 use Rattle.transfer_rules.specs.declared.classes.Class.TheVariants.{Add, Sub, And, Or, Xor, Sll, Srl, Sra, Slt, Sltu}
-use Rattle.transfer_rules.specs.declared.classes.Class.TheVariants.{Equal, Mul, High, Div}
+use Rattle.transfer_rules.specs.declared.classes.Class.TheVariants.{Equal, Mul, Mulh, Mulhsu, Mulhu, Div, Divu, Rem, Remu}
 use Rattle.transfer_rules.specs.declared.operands.Operands.{Operands}
 use Rattle.transfer_rules.specs.Classes.{branch_class, operation_class}
 use Rattle.transfer_rules.specs.Operations.{Operation, OfWords, OfBranch, OfAddress, class_of, result_of}
@@ -27,8 +27,13 @@ operations Slt = op_result op.Slt ∷ decision branch.Blt ∷ decision branch.Bg
 operations Sltu = op_result op.Sltu ∷ decision branch.Bltu ∷ decision branch.Bgeu ∷ []
 operations Equal = decision branch.Beq ∷ decision branch.Bne ∷ []
 operations Mul = op_result op.Mul ∷ []
-operations High = op_result op.Mulh ∷ op_result op.Mulhsu ∷ op_result op.Mulhu ∷ []
-operations Div = op_result op.Div ∷ op_result op.Divu ∷ op_result op.Rem ∷ op_result op.Remu ∷ []
+operations Mulh = op_result op.Mulh ∷ []
+operations Mulhsu = op_result op.Mulhsu ∷ []
+operations Mulhu = op_result op.Mulhu ∷ []
+operations Div = op_result op.Div ∷ []
+operations Divu = op_result op.Divu ∷ []
+operations Rem = op_result op.Rem ∷ []
+operations Remu = op_result op.Remu ∷ []
 
 -- each operation of the list has the property
 abbrev pub Each : List (ℕ → ℕ → ℕ) → ((ℕ → ℕ → ℕ) → Type 0) → Type 0
@@ -49,12 +54,12 @@ of_words op.Slt Has each = each.0
 of_words op.Sltu Has each = each.0
 of_words op.Mul Has each = each.0
 of_words op.Mulh Has each = each.0
-of_words op.Mulhsu Has each = each.1.0
-of_words op.Mulhu Has each = each.1.1.0
+of_words op.Mulhsu Has each = each.0
+of_words op.Mulhu Has each = each.0
 of_words op.Div Has each = each.0
-of_words op.Divu Has each = each.1.0
-of_words op.Rem Has each = each.1.1.0
-of_words op.Remu Has each = each.1.1.1.0
+of_words op.Divu Has each = each.0
+of_words op.Rem Has each = each.0
+of_words op.Remu Has each = each.0
 
 of_branch :
     (kind : BranchKind) (Has : (ℕ → ℕ → ℕ) → Type 0) → Each (operations (branch_class kind)) Has → Has (decision kind)

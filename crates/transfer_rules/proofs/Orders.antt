@@ -14,7 +14,7 @@ use Rattle.transfer_rules.specs.Table1.{flipped}
 use Rattle.transfer_rules.specs.Table2.{least, greatest}
 use Rattle.transfer_rules.proofs.Agreement.{agree_one, agree_same, same_where_none}
 use Rattle.transfer_rules.proofs.BitRules.{bit_flipped}
-use Rattle.transfer_rules.proofs.Bounds.{between, le_by_bits}
+use Rattle.transfer_rules.proofs.Bounds.{in_order}
 
 pub agree_unless : (known : Bool) (x y : ℕ) → (known ≡ true → x ≡ y) → x < 2 → y < 2 → Agree (if known then 0 else 1) x y
 agree_unless true x y same p q = agree_same 0 x y (same refl)
@@ -30,15 +30,12 @@ pub order_known :
     (m n v w a b : ℕ) → v < 2 ^ 32 → w < 2 ^ 32 → m < 2 ^ 32 → n < 2 ^ 32 → Agree m v a → Agree n w b →
     (nat_lt (greatest v m) (least w n) || nat_le (greatest w n) (least v m)) ≡ true → nat_lt v w ≡ nat_lt a b
 order_known m n v w a b fv fw fm fn h k known =
-    let first = between m v v fv fm (λ i none. refl) in
-    let first' = between m v a fv fm h in
-    let second = between n w w fw fn (λ i none. refl) in
-    let second' = between n w b fw fn k in
-    same_order (least v m) (greatest v m) (least w n) (greatest w n) v w a b
-    (le_by_bits (least v m) v first.from) (le_by_bits v (greatest v m) first.to)
-    (le_by_bits (least v m) a first'.from) (le_by_bits a (greatest v m) first'.to)
-    (le_by_bits (least w n) w second.from) (le_by_bits w (greatest w n) second.to)
-    (le_by_bits (least w n) b second'.from) (le_by_bits b (greatest w n) second'.to) known
+    let first = in_order m v v fv fm (λ i none. refl) in
+    let first' = in_order m v a fv fm h in
+    let second = in_order n w w fw fn (λ i none. refl) in
+    let second' = in_order n w b fw fn k in
+    same_order (least v m) (greatest v m) (least w n) (greatest w n) v w a b first.0 first.1 first'.0 first'.1
+    second.0 second.1 second'.0 second'.1 known
 
 -- ---- signed words
 

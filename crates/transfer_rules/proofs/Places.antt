@@ -6,7 +6,7 @@ use Rattle.transfer_rules.specs.Tables.{classes_in_order}
 use Rattle.transfer_rules.specs.contracts.classes.Class.{the_type}
 use Rattle.transfer_rules.specs.declared.classes.Class.{Class}
 use Rattle.transfer_rules.specs.declared.classes.Class.TheVariants.{Add, Sub, And, Or, Xor, Sll, Srl, Sra, Slt, Sltu}
-use Rattle.transfer_rules.specs.declared.classes.Class.TheVariants.{Equal, Mul, High, Div}
+use Rattle.transfer_rules.specs.declared.classes.Class.TheVariants.{Equal, Mul, Mulh, Mulhsu, Mulhu, Div, Divu, Rem, Remu}
 
 pub listed : (class : Class) → slice_index_or classes_in_order (tag_of the_type class) class ≡ class
 listed Add = refl
@@ -21,8 +21,13 @@ listed Slt = refl
 listed Sltu = refl
 listed Equal = refl
 listed Mul = refl
-listed High = refl
+listed Mulh = refl
+listed Mulhsu = refl
+listed Mulhu = refl
 listed Div = refl
+listed Divu = refl
+listed Rem = refl
+listed Remu = refl
 
 low : (class : Class) → tag_of the_type class < length classes_in_order
 low Add = omega arith
@@ -37,8 +42,13 @@ low Slt = omega arith
 low Sltu = omega arith
 low Equal = omega arith
 low Mul = omega arith
-low High = omega arith
+low Mulh = omega arith
+low Mulhsu = omega arith
+low Mulhu = omega arith
 low Div = omega arith
+low Divu = omega arith
+low Rem = omega arith
+low Remu = omega arith
 
 -- there is a rule at the number of each class
 pub inside : {R : Type 0} (class_of : R → Class) (rules : List R) (class : Class) →

@@ -13,11 +13,11 @@ use Rattle.transfer_rules.proofs.Agreement.{agree_all, bit_low, same_low}
 
 -- ---- to the left
 
-left_low : (word places i : ℕ) → i < places → bit_at (word * 2 ^ places) i ≡ 0
+pub left_low : (word places i : ℕ) → i < places → bit_at (word * 2 ^ places) i ≡ 0
 left_low word places i below =
     ap (λ x. bit_at x i) (sym (add-zero (word * 2 ^ places))) ∙ bit_at_cat_low word places 0 i below ∙ bit_at-zero i
 
-left_high : (word places i : ℕ) → places ≤ i → bit_at (word * 2 ^ places) i ≡ bit_at word (i - places)
+pub left_high : (word places i : ℕ) → places ≤ i → bit_at (word * 2 ^ places) i ≡ bit_at word (i - places)
 left_high word places i from =
     ap (λ x. bit_at x i) (sym (add-zero (word * 2 ^ places))) ∙ bit_at_cat_high word places 0 i (pow_pos places) from
 
@@ -39,7 +39,7 @@ agree_left places m v a h = agree_word (m * 2 ^ places) (v * 2 ^ places) (a * 2 
 
 -- ---- to the right
 
-right_bit : (word places i : ℕ) → bit_at (word / 2 ^ places) i ≡ bit_at word (places + i)
+pub right_bit : (word places i : ℕ) → bit_at (word / 2 ^ places) i ≡ bit_at word (places + i)
 right_bit word places i = ap (λ x. x % 2) (shr-shr word places i)
 
 pub agree_right : (places m v a : ℕ) → Agree m v a → Agree (m / 2 ^ places) (v / 2 ^ places) (a / 2 ^ places)
@@ -95,7 +95,7 @@ set_bit word places i high fits inside = flipped_bit word places i fits inside �
     twice : (b : ℕ) → b < 2 → 1 - (1 - b) ≡ b
     twice b below = omega arith
 
-sign_bit :
+pub sign_bit :
     (word places i : ℕ) → word < 2 ^ 32 → i < 32 →
     bit_at (shifted_with_sign word places) i ≡ bit_at word (min (places + i) 31)
 sign_bit word places i fits inside = ⊎_elim

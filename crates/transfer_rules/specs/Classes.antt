@@ -26,13 +26,13 @@ operation_class Sra = class.Sra
 operation_class Slt = class.Slt
 operation_class Sltu = class.Sltu
 operation_class Mul = class.Mul
-operation_class Mulh = class.High
-operation_class Mulhsu = class.High
-operation_class Mulhu = class.High
+operation_class Mulh = class.Mulh
+operation_class Mulhsu = class.Mulhsu
+operation_class Mulhu = class.Mulhu
 operation_class Div = class.Div
-operation_class Divu = class.Div
-operation_class Rem = class.Div
-operation_class Remu = class.Div
+operation_class Divu = class.Divu
+operation_class Rem = class.Rem
+operation_class Remu = class.Remu
 
 -- the class of a branch
 abbrev pub branch_class : BranchKind → Class

@@ -6,7 +6,7 @@ use Rattle.rv32im_decode.specs.declared.instructions.OpKind.TheVariants as op
 use Rattle.rv32im_decode.specs.Operations.{op_result}
 use Rattle.transfer_rules.specs.declared.classes.Class.{Class}
 use Rattle.transfer_rules.specs.declared.classes.Class.TheVariants.{Add, Sub, And, Or, Xor, Sll, Srl, Sra, Slt, Sltu}
-use Rattle.transfer_rules.specs.declared.classes.Class.TheVariants.{Equal, Mul, High, Div}
+use Rattle.transfer_rules.specs.declared.classes.Class.TheVariants.{Equal, Mul, Mulh, Mulhsu, Mulhu, Div, Divu, Rem, Remu}
 use Rattle.transfer_rules.specs.declared.operands.Operands.{Operands}
 
 -- the bits that are secret in one of the operands
@@ -49,5 +49,10 @@ mask_by_table_1 Slt o = one_mask (either o)
 mask_by_table_1 Sltu o = one_mask (either o)
 mask_by_table_1 Equal o = one_mask (either o)
 mask_by_table_1 Mul o = sum_mask (either o)
-mask_by_table_1 High o = all_mask (either o)
+mask_by_table_1 Mulh o = all_mask (either o)
+mask_by_table_1 Mulhsu o = all_mask (either o)
+mask_by_table_1 Mulhu o = all_mask (either o)
 mask_by_table_1 Div o = all_mask (either o)
+mask_by_table_1 Divu o = all_mask (either o)
+mask_by_table_1 Rem o = all_mask (either o)
+mask_by_table_1 Remu o = all_mask (either o)

@@ -5,20 +5,22 @@ use Rattle.rv32im_decode.specs.declared.instructions.Instr.TheVariants.{Jalr, Lo
 use Rattle.rv32im_decode.specs.Operations.{word_of}
 use Rattle.transfer_rules.specs.declared.classes.Class.{Class}
 use Rattle.transfer_rules.specs.declared.classes.Class.TheVariants.{Add, Sub, And, Or, Xor, Sll, Srl, Sra, Slt, Sltu}
-use Rattle.transfer_rules.specs.declared.classes.Class.TheVariants.{Equal, Mul, High, Div}
+use Rattle.transfer_rules.specs.declared.classes.Class.TheVariants.{Equal, Mul, Mulh, Mulhsu, Mulhu, Div, Divu, Rem, Remu}
 use Rattle.transfer_rules.specs.declared.operands.Operands.{Operands}
 use Rattle.transfer_rules.specs.Table1.{mask_by_table_1}
 use Rattle.transfer_rules.specs.Table2.{mask_by_table_2}
+use Rattle.transfer_rules.specs.Table3.{mask_by_table_3}
 
 -- a table gives a mask for each class
 abbrev pub Table : Type 0
 Table = Class → Operands → ℕ
 
--- of table 1 and of table 2 a mask, or what is made of masks, is what the table wants; of any other table, as table 0,
+-- of tables 1, 2 and 3 a mask, or what is made of masks, is what the table wants; of any other table, as table 0,
 -- nothing is said
 abbrev pub IsByTable : {X : Type 0} → ℕ → (Table → X) → X → Type 0
 IsByTable table wanted found =
     (table ≡ 1 → found ≡ wanted mask_by_table_1) × (table ≡ 2 → found ≡ wanted mask_by_table_2)
+    × (table ≡ 3 → found ≡ wanted mask_by_table_3)
 
 -- a word and an immediate, as the operands of a sum
 abbrev pub sum_operands : ℕ → ℕ → ℤ → Operands
@@ -35,12 +37,13 @@ mask_of_address (Store kind rs1 rs2 imm) first mask table = table Add (sum_opera
 mask_of_address (Jalr rd rs1 imm) first mask table = mask_of_target (sum_operands first mask imm) table
 mask_of_address other first mask table = 0
 
--- the fourteen classes, in their order
+-- the nineteen classes, in their order
 abbrev pub classes_in_order : List Class
 classes_in_order =
-    Add ∷ Sub ∷ And ∷ Or ∷ Xor ∷ Sll ∷ Srl ∷ Sra ∷ Slt ∷ Sltu ∷ Equal ∷ Mul ∷ High ∷ Div ∷ []
+    Add ∷ Sub ∷ And ∷ Or ∷ Xor ∷ Sll ∷ Srl ∷ Sra ∷ Slt ∷ Sltu ∷ Equal ∷ Mul ∷ Mulh ∷ Mulhsu ∷ Mulhu ∷ Div ∷ Divu ∷ Rem
+    ∷ Remu ∷ []
 
--- tables 1 and 2 say what each answer of a mask rule is; of the answers of other books nothing but their soundness is
--- known
+-- tables 1, 2 and 3 say what each answer of a mask rule is; of the answers of other books nothing but their soundness
+-- is known
 abbrev pub IsDeciding : ℕ → Type 0
-IsDeciding table = (table ≡ 1) ⊎ (table ≡ 2)
+IsDeciding table = (table ≡ 1) ⊎ ((table ≡ 2) ⊎ (table ≡ 3))

@@ -8,19 +8,19 @@ use crate::classes::Class;
 use crate::operands::Operands;
 use crate::rule::Rule;
 
-/// The rules of the fourteen classes, in the order of the classes, all of one table: 1, 2, or 0 where nothing but their
+/// The rules of the nineteen classes, in the order of the classes, all of one table: 1, 2, 3, or 0 where nothing but their
 /// soundness is known.
 #[derive(Drop)]
 pub struct RuleBook {
     table: u8,
-    rules: [Rule; 14],
+    rules: [Rule; 19],
     ghost in_order: { map (λ rule. rule.class) rules ≡ classes_in_order },
     ghost of_one_table: { map (λ rule. rule.table) rules ≡ map (λ _. table) rules },
 }
 
 impl RuleBook {
-    /// The book of a table, from the rules of the fourteen classes in order, all of that table. It takes no memory.
-    pub fn new(table: u8, rules: [Rule; 14]) -> RuleBook
+    /// The book of a table, from the rules of the nineteen classes in order, all of that table. It takes no memory.
+    pub fn new(table: u8, rules: [Rule; 19]) -> RuleBook
         requires in_order { map (λ rule. rule.class) rules ≡ classes_in_order }
         requires of_one_table { map (λ rule. rule.table) rules ≡ map (λ _. table) rules }
         ensures { result.table ≡ table }

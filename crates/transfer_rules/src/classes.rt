@@ -5,7 +5,7 @@ ghost use Rattle.transfer_rules.specs.Classes.{operation_class, branch_class, in
 
 use rv32im_decode::{BranchKind, Instr, OpKind};
 
-/// The fourteen classes of operations of RV32IM; those of a class share a mask rule (RISC-V Unprivileged ISA, RV32I and
+/// The nineteen classes of operations of RV32IM; those of a class share a mask rule (RISC-V Unprivileged ISA, RV32I and
 /// "M" extension).
 #[derive(Clone, Copy)]
 pub enum Class {
@@ -33,10 +33,20 @@ pub enum Class {
     Equal,
     /// MUL.
     Mul,
-    /// MULH, MULHSU, MULHU.
-    High,
-    /// DIV, DIVU, REM, REMU.
+    /// MULH.
+    Mulh,
+    /// MULHSU.
+    Mulhsu,
+    /// MULHU.
+    Mulhu,
+    /// DIV.
     Div,
+    /// DIVU.
+    Divu,
+    /// REM.
+    Rem,
+    /// REMU.
+    Remu,
 }
 
 /// The class of an instruction; `None` exactly for those of no class, which are the loads, the stores, JALR, LUI,
@@ -68,8 +78,13 @@ pub fn class_of_operation(kind: OpKind) -> Class
         OpKind::Slt => Class::Slt,
         OpKind::Sltu => Class::Sltu,
         OpKind::Mul => Class::Mul,
-        OpKind::Mulh | OpKind::Mulhsu | OpKind::Mulhu => Class::High,
-        OpKind::Div | OpKind::Divu | OpKind::Rem | OpKind::Remu => Class::Div,
+        OpKind::Mulh => Class::Mulh,
+        OpKind::Mulhsu => Class::Mulhsu,
+        OpKind::Mulhu => Class::Mulhu,
+        OpKind::Div => Class::Div,
+        OpKind::Divu => Class::Divu,
+        OpKind::Rem => Class::Rem,
+        OpKind::Remu => Class::Remu,
     }
 }
 

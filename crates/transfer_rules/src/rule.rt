@@ -9,7 +9,7 @@ use crate::classes::Class;
 use crate::operands::Operands;
 
 /// The rule of a class: a function that is known by the fact of what it answers. Whatever the table is, each answer is
-/// sound for the class. Of table 1 and of table 2 it is the mask of that table too; table 0 says nothing more.
+/// sound for the class. Of tables 1, 2 and 3 it is the mask of that table too; table 0 says nothing more.
 #[derive(Drop)]
 pub struct Rule {
     class: Class,

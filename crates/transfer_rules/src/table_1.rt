@@ -5,8 +5,9 @@
 ghost use Rattle.std.specs.Prelude.{◌≡◌};
 ghost use Rattle.transfer_rules.specs.Soundness.{IsSound};
 ghost use Rattle.transfer_rules.specs.Table1.{mask_by_table_1, either, sum_mask, all_mask, one_mask, shift_mask};
+ghost use Rattle.transfer_rules.specs.declared.classes.Class.{Class as AnyClass};
 ghost use Rattle.transfer_rules.specs.declared.classes.Class.TheVariants.{Add, Sub, And, Or, Xor, Sll, Srl, Sra, Slt};
-ghost use Rattle.transfer_rules.specs.declared.classes.Class.TheVariants.{Sltu, Equal, Mul, High, Div};
+ghost use Rattle.transfer_rules.specs.declared.classes.Class.TheVariants.{Sltu, Equal, Mul};
 
 use crate::operands::Operands;
 use rv32im_decode::OpKind;
@@ -108,18 +109,22 @@ pub fn mul_1(operands: Operands) -> u32
     from_lowest(secret(operands))
 }
 
-/// The mask of the upper word of a product: all bits, where any bit of the operands is secret.
+/// The mask of the upper word of a product, signed or not: all bits, where any bit of the operands is secret. That is
+/// sound for every class.
+#[tactic(auto, using(crate::proofs::Masks::all_is_sound))]
 pub fn high_1(operands: Operands) -> u32
-    ensures table { result ≡ mask_by_table_1 High operands }
-    ensures sound { IsSound High operands result }
+    ensures table { result ≡ all_mask (either operands) }
+    ensures sound { (class : AnyClass) → IsSound class operands result }
 {
     all_bits(secret(operands))
 }
 
-/// The mask of a quotient or remainder: all bits, where any bit of the operands is secret.
+/// The mask of a quotient or remainder, signed or not: all bits, where any bit of the operands is secret. That is sound
+/// for every class.
+#[tactic(auto, using(crate::proofs::Masks::all_is_sound))]
 pub fn div_1(operands: Operands) -> u32
-    ensures table { result ≡ mask_by_table_1 Div operands }
-    ensures sound { IsSound Div operands result }
+    ensures table { result ≡ all_mask (either operands) }
+    ensures sound { (class : AnyClass) → IsSound class operands result }
 {
     all_bits(secret(operands))
 }

@@ -76,13 +76,13 @@ pub fn mul_2(operands: Operands) -> u32
     from_lowest(first | second)
 }
 
-fn least(value: u32, mask: u32) -> u32
+pub(crate) fn least(value: u32, mask: u32) -> u32
     ensures { result ≡ least_of value mask }
 {
     value & !mask
 }
 
-fn greatest(value: u32, mask: u32) -> u32
+pub(crate) fn greatest(value: u32, mask: u32) -> u32
     ensures { result ≡ greatest_of value mask }
 {
     value | mask
