@@ -6,7 +6,7 @@ use Rattle.command_line.specs.declared.names.CommandName.TheVariants as names
 use Rattle.command_line.specs.declared.judgings.Judging.{Judging}
 use Rattle.command_line.specs.declared.judgings.Judging.TheVariants.{Replay, Masks}
 use Rattle.command_line.specs.declared.tellings.Telling.TheVariants.{CutText, Certificate, Report, Declaration}
-use Rattle.command_line.specs.CommandLines.{AllSecrets, Bounds, IsAllSecrets, IsManyRuns, ManyRuns, MeasuresAll, Check, Run, GuestNames, Command, Checks, Tells, Assembles, Lists, Verifies, Migrates, Tries, Fits, IsCheck, IsChoice, IsCommand, IsLearning, IsNumber, IsNumberOr, IsOneFile, IsRun, IsTrial, named_by}
+use Rattle.command_line.specs.CommandLines.{AllSecrets, Bounds, IsAllSecrets, IsManyRuns, ManyRuns, MeasuresAll, Check, Run, GuestNames, Command, Checks, Tells, Assembles, Lists, Verifies, Migrates, Tries, Fits, IsCheck, IsChoice, IsCommand, IsLearning, IsNumber, IsNumberOr, IsOneFile, IsRun, IsTable, IsTrial, named_by}
 use Rattle.command_line.specs.Parts.{Parts, has_option, parts_of}
 
 -- ---- numbers
@@ -22,6 +22,9 @@ same_number_or : (other lowest highest : ℕ) (value : Option (List ℕ)) (a b :
 same_number_or other lowest highest None a b small one second = one ∙ sym second
 same_number_or other lowest highest (Some word) a b small one second =
     same_number lowest highest word a b small one second
+
+pub same_table : (value : Option (List ℕ)) (a b : ℕ) → IsTable value a → IsTable value b → a ≡ b
+same_table value a b one other = same_number_or 1 1 3 value a b (omega arith) one other
 
 -- ---- the fields of each command
 
@@ -101,7 +104,7 @@ same_all parts a b one other =
     (subst (λ w. IsNumber 0 1048576 w a.budget) word one.bits) other.bits in
     let turns : a.turns ≡ b.turns = same_number_or 1000000 1 20000000 _ a.turns b.turns (omega arith) one.turns
     other.turns in
-    let table : a.table ≡ b.table = same_number_or 1 1 2 _ a.table b.table (omega arith) one.rules other.rules in
+    let table : a.table ≡ b.table = same_table _ a.table b.table one.rules other.rules in
     let paths : a.paths ≡ b.paths = same_number_or 65536 1 1048576 _ a.paths b.paths (omega arith) one.paths
     other.paths in
     let any_public : a.any_public ≡ b.any_public = one.any_public ∙ sym other.any_public in
@@ -118,7 +121,7 @@ same_all parts a b one other =
 abbrev made_run : GuestNames → List ℕ → ℕ → ℕ → Run
 made_run guest secret turns table = record { guest = guest; secret = secret; turns = turns; table = table }
 
-pub same_choice : (value : Option (List ℕ)) (a b : ℕ) → IsChoice value a → IsChoice value b → a ≡ b
+same_choice : (value : Option (List ℕ)) (a b : ℕ) → IsChoice value a → IsChoice value b → a ≡ b
 same_choice value a b one other = same_number_or 1 1 2 value a b (omega arith) one other
 
 same_run : (options flags : List (List ℕ)) (parts : Parts) (a b : Run) → IsRun options flags parts a →
@@ -133,7 +136,7 @@ same_run options flags parts a b one other =
     let guest : a.guest ≡ b.guest = same_guest a.guest b.guest program public_input (sym one.regions ∙ other.regions) in
     let turns : a.turns ≡ b.turns = same_number_or 1000000 1 20000000 _ a.turns b.turns (omega arith) one.turns
     other.turns in
-    let table : a.table ≡ b.table = same_choice _ a.table b.table one.rules other.rules in
+    let table : a.table ≡ b.table = same_table _ a.table b.table one.rules other.rules in
     ap (λ v. made_run v a.secret a.turns a.table) guest
     ∙ (ap (λ v. made_run b.guest v a.turns a.table) secret
     ∙ (ap (λ v. made_run b.guest b.secret v a.table) turns ∙ ap (λ v. made_run b.guest b.secret b.turns v) table))
@@ -171,7 +174,7 @@ same_runs parts a b one other =
     let guest : a.guest ≡ b.guest = same_guest a.guest b.guest program public_input (sym one.regions ∙ other.regions) in
     let turns : a.turns ≡ b.turns = same_number_or 1000000 1 20000000 _ a.turns b.turns (omega arith) one.turns
     other.turns in
-    let table : a.table ≡ b.table = same_choice _ a.table b.table one.rules other.rules in
+    let table : a.table ≡ b.table = same_table _ a.table b.table one.rules other.rules in
     ap (λ v. made_runs v a.secrets a.turns a.table) guest
     ∙ (ap (λ v. made_runs b.guest v a.turns a.table) secrets
     ∙ (ap (λ v. made_runs b.guest b.secrets v a.table) turns ∙ ap (λ v. made_runs b.guest b.secrets b.turns v) table))
@@ -192,7 +195,7 @@ same_fit : (name : CommandName) (parts : Parts) (a b : Command) → Fits name pa
 same_fit names.Check parts a b (x, one, is) (y, other, also) =
     is ∙ (ap (λ v. Checks v) (same_check _ Replay Replay parts x y (λ i. Replay) one other) ∙ sym also)
 same_fit names.Taint parts a b (v, x, one, first, is) (w, y, other, second, also) =
-    let alike : Masks v ≡ Masks w = ap (λ n. Masks n) (same_choice _ v w first second) in
+    let alike : Masks v ≡ Masks w = ap (λ n. Masks n) (same_table _ v w first second) in
     is ∙ (ap (λ c. Checks c) (same_check _ (Masks v) (Masks w) parts x y alike one other) ∙ sym also)
 same_fit names.Bound parts a b (x, one, is) (y, other, also) =
     is ∙ (ap (λ c. Bounds c) (same_all parts x y one other) ∙ sym also)

@@ -108,14 +108,18 @@ IsNumberOr other lowest highest (Some word) number = IsNumber lowest highest wor
 abbrev pub IsTurnLimit : Option (List ℕ) → ℕ → Type 0
 IsTurnLimit value turns = IsNumberOr default_turns 1 highest_turns value turns
 
--- 1 or 2, and 1 where nothing is named: a table of mask rules, or a version of a cut's text
+-- 1 or 2, and 1 where nothing is named: a version of a cut's text
 abbrev pub IsChoice : Option (List ℕ) → ℕ → Type 0
 IsChoice value choice = IsNumberOr 1 1 2 value choice
 
--- a table of mask rules is 1 or 2
+-- 1, 2 or 3, and 1 where nothing is named: a table of mask rules
+abbrev pub IsTable : Option (List ℕ) → ℕ → Type 0
+IsTable value table = IsNumberOr 1 1 3 value table
+
+-- a table of mask rules is 1, 2 or 3
 abbrev pub has_table : Judging → Bool
 has_table Replay = true
-has_table (Masks table) = nat_le 1 table && nat_le table 2
+has_table (Masks table) = nat_le 1 table && nat_le table 3
 
 -- ---- what stands after each name of a command
 
@@ -142,7 +146,7 @@ pub record IsAllSecrets (parts : Parts) (all : AllSecrets) : Type 0 where
   pub bits : IsNumber 0 highest_budget budget all.budget
   pub turns : IsTurnLimit (option_value (codes "--turns") parts.options) all.turns
   pub regions : option_value (codes "--regions") parts.options ≡ all.guest.region_file
-  pub rules : IsChoice (option_value (codes "--rules") parts.options) all.table
+  pub rules : IsTable (option_value (codes "--rules") parts.options) all.table
   pub paths : IsNumberOr default_paths 1 highest_paths (option_value (codes "--paths") parts.options) all.paths
   pub any_public : all.any_public ≡ has_option (codes "--any-public") parts.options
   pub listed : all.listed ≡ has_option (codes "--list") parts.options
@@ -159,7 +163,7 @@ pub record IsRun (options flags : List (List ℕ)) (parts : Parts) (run : Run) :
   pub plain : parts.plain ≡ run.guest.program ∷ run.guest.public_input ∷ run.secret ∷ []
   pub turns : IsTurnLimit (option_value (codes "--turns") parts.options) run.turns
   pub regions : option_value (codes "--regions") parts.options ≡ run.guest.region_file
-  pub rules : IsChoice (option_value (codes "--rules") parts.options) run.table
+  pub rules : IsTable (option_value (codes "--rules") parts.options) run.table
   pub taken : are_taken options flags parts.options ≡ true
 
 -- PROG PUBLIC SECRET.., with 1 to 64 secrets
@@ -169,7 +173,7 @@ pub record IsManyRuns (parts : Parts) (runs : ManyRuns) : Type 0 where
   pub few : length runs.secrets ≤ 64
   pub turns : IsTurnLimit (option_value (codes "--turns") parts.options) runs.turns
   pub regions : option_value (codes "--regions") parts.options ≡ runs.guest.region_file
-  pub rules : IsChoice (option_value (codes "--rules") parts.options) runs.table
+  pub rules : IsTable (option_value (codes "--rules") parts.options) runs.table
   pub taken : are_taken (codes "--cut" ∷ run_options) [] parts.options ≡ true
 
 -- PROG PUBLIC SECRET FILE, with no option but the limit of turns: FILE is the region file
@@ -200,7 +204,7 @@ Fits names.Check parts command =
     (check : Check) × IsCheck check_options Replay parts check × (command ≡ Checks check)
 Fits names.Taint parts command =
     (table : ℕ) × (check : Check) × IsCheck (codes "--rules" ∷ check_options) (Masks table) parts check
-    × IsChoice (option_value (codes "--rules") parts.options) table × (command ≡ Checks check)
+    × IsTable (option_value (codes "--rules") parts.options) table × (command ≡ Checks check)
 Fits names.Bound parts command = (all : AllSecrets) × IsAllSecrets parts all × (command ≡ Bounds all)
 Fits names.Measure parts command =
     (version : ℕ) × (run : Run) × IsRun (codes "--cut" ∷ run_options) [] parts run

@@ -12,7 +12,7 @@ pub struct AllSecretsWords<'a> {
     pub cut: &'a str,
     /// The budget and the limit of turns.
     pub limits: Limits,
-    /// The table of the mask rules, 1 or 2.
+    /// The table of the mask rules, 1, 2 or 3.
     pub table: u32,
     /// The number of walks that are made at most, 1 to 1,048,576.
     pub paths: u32,
@@ -21,7 +21,7 @@ pub struct AllSecretsWords<'a> {
     /// Whether each pattern of outputs is listed.
     pub listed: bool,
     ghost first: { 1 ≤ table },
-    ghost last: { table ≤ 2 },
+    ghost last: { table ≤ 3 },
     ghost some: { 1 ≤ paths },
     ghost most: { paths ≤ 1048576 },
 }

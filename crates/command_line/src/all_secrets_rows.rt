@@ -5,7 +5,7 @@ ghost use Rattle.command_line.specs.Words.{all_secrets_of, parts_in};
 
 use crate::all_secrets::AllSecretsWords;
 use crate::guests::GuestWords;
-use crate::numbers::{choice_in, limits_of, paths_of};
+use crate::numbers::{limits_of, paths_of, table_in};
 use crate::option_words::{are_taken, has_option, value_of};
 use crate::parts::Parts;
 
@@ -36,7 +36,7 @@ pub fn all_secrets_words<'a>(parts: &Parts<'a>) -> Option<AllSecretsWords<'a>>
     let Some(limits) = limits_of(budget, parts) else {
         return None;
     };
-    let Some(table) = choice_in(parts, "--rules") else {
+    let Some(table) = table_in(parts) else {
         return None;
     };
     let options = parts.options.as_slice();

@@ -17,7 +17,7 @@ pub struct CheckWords<'a> {
     pub secrets: List<&'a str>,
     /// The budget and the limit of turns.
     pub limits: Limits,
-    /// By what they are judged; a table is 1 or 2.
+    /// By what they are judged; a table is 1, 2 or 3.
     pub judging: Judging,
     ghost known: { IsTrue (has_table judging) },
 }

@@ -11,7 +11,7 @@ use crate::checks::CheckWords;
 use crate::judgings::Judging;
 use crate::learn_rows::learn_words;
 use crate::names::CommandName;
-use crate::numbers::{choice_in, number_of};
+use crate::numbers::{choice_in, number_of, table_in};
 use crate::option_words::has_option;
 use crate::parts::{Parts, parts_of};
 use crate::run_rows::{many_runs_words, run_words};
@@ -99,7 +99,7 @@ fn taint_row<'a>(alloc: Global, parts: &Parts<'a>) -> Result<Option<CommandWords
         command))) }
     ensures none { result ≡ Ok None → (command : Command) → ¬ Fits names.Taint (parts_in parts.now) command }
 {
-    let Some(table) = choice_in(parts, "--rules") else {
+    let Some(table) = table_in(parts) else {
         return Ok(None);
     };
     let allowed = ["--rules", "--turns", "--regions"];

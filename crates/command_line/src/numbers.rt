@@ -1,7 +1,7 @@
 //! The numbers that words and values of options name.
 
 ghost use Rattle.std.specs.Prelude.{◌≡◌, ◌≤◌, ℕ, None, codes, option_map, IfSome};
-ghost use Rattle.command_line.specs.CommandLines.{IsChoice, IsNumber, IsNumberOr, IsTurnLimit, default_paths};
+ghost use Rattle.command_line.specs.CommandLines.{IsChoice, IsNumber, IsNumberOr, IsTable, IsTurnLimit, default_paths};
 ghost use Rattle.command_line.specs.CommandLines.{highest_budget, highest_paths, highest_turns};
 ghost use Rattle.command_line.specs.Parts.{option_value};
 ghost use Rattle.command_line.specs.Words.{parts_in};
@@ -87,21 +87,48 @@ pub(crate) fn choice_in(parts: &Parts, name: &str) -> Option<u32>
     choice_of(value_of(parts.options.as_slice(), name))
 }
 
+/// The table of mask rules that a value names, 1, 2 or 3, and 1 without a value; None exactly where it names none.
+pub fn table_of(value: Option<&str>) -> Option<u32>
+    ensures is { IfSome result (λ table. IsTable (option_map (λ word. word.now)
+        value.entry) table) }
+    ensures first { IfSome result (λ table. 1 ≤ table) }
+    ensures last { IfSome result (λ table. table ≤ 3) }
+    ensures none { result ≡ None → (table : ℕ) → ¬ IsTable (option_map (λ word. word.now) value.entry) table }
+{
+    match value {
+        Some(word) => number_of(word, 1, 3),
+        None => Some(1),
+    }
+}
+
+/// The table of mask rules that the options name, 1 where they name none; None exactly where the option `--rules` names
+/// none.
+pub(crate) fn table_in(parts: &Parts) -> Option<u32>
+    ensures is { IfSome result (λ table. IsTable (option_value (codes "--rules")
+        (parts_in parts.now).options) table) }
+    ensures first { IfSome result (λ table. 1 ≤ table) }
+    ensures last { IfSome result (λ table. table ≤ 3) }
+    ensures none { result ≡ None → (table : ℕ) → ¬ IsTable (option_value (codes "--rules")
+        (parts_in parts.now).options) table }
+{
+    table_of(value_of(parts.options.as_slice(), "--rules"))
+}
+
 /// The limit of turns and the table of mask rules that the options name; None exactly where one of them names none.
 pub(crate) fn turns_and_table(parts: &Parts) -> Option<(u32, u32)>
     ensures turns { IfSome result (λ both. IsTurnLimit (option_value (codes "--turns")
         (parts_in parts.now).options) both.0) }
     ensures few { IfSome result (λ both. both.0 ≤ highest_turns) }
-    ensures table { IfSome result (λ both. IsChoice (option_value (codes "--rules")
+    ensures table { IfSome result (λ both. IsTable (option_value (codes "--rules")
         (parts_in parts.now).options) both.1) }
-    ensures one { IfSome result (λ both. 1 ≤ both.1) }
-    ensures two { IfSome result (λ both. both.1 ≤ 2) }
+    ensures first { IfSome result (λ both. 1 ≤ both.1) }
+    ensures last { IfSome result (λ both. both.1 ≤ 3) }
     ensures none { result ≡ None → (turns table : ℕ) → IsTurnLimit (option_value (codes "--turns")
-        (parts_in parts.now).options) turns → ¬ IsChoice (option_value (codes "--rules")
+        (parts_in parts.now).options) turns → ¬ IsTable (option_value (codes "--rules")
         (parts_in parts.now).options) table }
 {
     let turns = turns_of(value_of(parts.options.as_slice(), "--turns"))?;
-    let table = choice_in(parts, "--rules")?;
+    let table = table_in(parts)?;
     Some((turns, table))
 }
 

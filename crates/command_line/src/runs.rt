@@ -12,11 +12,11 @@ pub struct RunWords<'a> {
     pub secret: &'a str,
     /// The number of turns within which the run exits, at most 20,000,000.
     pub turns: u32,
-    /// The table of the mask rules by which it is measured, 1 or 2.
+    /// The table of the mask rules by which it is measured, 1, 2 or 3.
     pub table: u32,
     ghost few: { turns ≤ 20000000 },
     ghost first: { 1 ≤ table },
-    ghost last: { table ≤ 2 },
+    ghost last: { table ≤ 3 },
 }
 
 /// The words of a command that measures several runs together.
@@ -28,11 +28,11 @@ pub struct ManyRunsWords<'a> {
     pub secrets: List<&'a str>,
     /// The number of turns within which each run exits, at most 20,000,000.
     pub turns: u32,
-    /// The table of the mask rules by which they are measured, 1 or 2.
+    /// The table of the mask rules by which they are measured, 1, 2 or 3.
     pub table: u32,
     ghost few: { turns ≤ 20000000 },
     ghost first: { 1 ≤ table },
-    ghost last: { table ≤ 2 },
+    ghost last: { table ≤ 3 },
     ghost some: { 1 ≤ length secrets },
     ghost most: { length secrets ≤ 64 },
 }

@@ -75,32 +75,32 @@ task_in (tasks.TryNumber number) = TryNumber number
 abbrev pub AreShort : List (List ℕ) → Type 0
 AreShort secrets = All (λ secret. length secret ≤ 65536) secrets
 
--- the secrets are within their limits, and a table is 1 or 2
+-- the secrets are within their limits, and a table is 1, 2 or 3
 pub record IsBoundedCheck (check : ReadCheck) : Type 0 where
   pub secrets : AreShort check.secrets.now
   pub known : has_table check.judging ≡ true
 
--- a walk may be made, and the table is 1 or 2
+-- a walk may be made, and the table is 1, 2 or 3
 pub record IsBoundedAll (all : ReadAllSecrets) : Type 0 where
   pub some : 1 ≤ all.paths
   pub first : 1 ≤ all.table
-  pub last : all.table ≤ 2
+  pub last : all.table ≤ 3
 
--- the secret and the turns are within their limits, and the table is 1 or 2
+-- the secret and the turns are within their limits, and the table is 1, 2 or 3
 pub record IsBoundedRun (run : ReadRun) : Type 0 where
   pub secret : length run.secret.now ≤ 65536
   pub turns : run.turns ≤ highest_turns
   pub first : 1 ≤ run.table
-  pub last : run.table ≤ 2
+  pub last : run.table ≤ 3
 
--- there are 1 to 64 secrets, each within its limit, the turns are within theirs, and the table is 1 or 2
+-- there are 1 to 64 secrets, each within its limit, the turns are within theirs, and the table is 1, 2 or 3
 pub record AreBoundedRuns (runs : ReadManyRuns) : Type 0 where
   pub secrets : AreShort runs.secrets.now
   pub some : 1 ≤ length runs.secrets.now
   pub most : length runs.secrets.now ≤ 64
   pub turns : runs.turns ≤ highest_turns
   pub first : 1 ≤ runs.table
-  pub last : runs.table ≤ 2
+  pub last : runs.table ≤ 3
 
 -- what is read is within the limits of what answers it
 abbrev pub IsBounded : ReadTask → Type 0

@@ -19,7 +19,7 @@ pub fn answer<F: Files>(
     words: &[String],
     books: &[RuleBook],
 ) -> Result<Reply, Refusal>
-    requires books { map (λ book. book.table) books.now ≡ 1 ∷ 2 ∷ [] }
+    requires books { map (λ book. book.table) books.now ≡ 1 ∷ 2 ∷ 3 ∷ [] }
     ensures answers { result ≢ Err Memory → AnswersWords (F.told files.old) (map string_bytes words.now) result }
     ensures leaves { result ≢ Err Memory → LeavesWords (F.told files.old) (map string_bytes words.now) (F.told
         files.new) }

@@ -18,10 +18,9 @@ use transfer_rules::RuleBook;
 /// unclear, or the certificate is rejected; 2 where the words are no command line; 3 where a program, a region file, a
 /// cut, a source or a certificate is malformed; 4 where the run of a guest is not measured or no declaration is learnt of
 /// it; 5 where a load failed; 6 where a file has more bytes than its limit; 7 where the put failed; and 8 out of
-/// memory, and then nothing is put. `books` has the books of the mask rules of table 1 and of table 2, by which runs are
-/// measured, secrets followed and outputs bounded. What the reply is, where words have one alone, and which status files
-/// that are well formed have, say the laws `replies_are_one` and
-/// `replies_are_complete` of `reply_laws`.
+/// memory, and then nothing is put. `books` has the books of the mask rules of tables 1, 2 and 3, in this order, by which
+/// runs are measured, secrets followed and outputs bounded. What the reply is, where words have one alone, and which status
+/// files that are well formed have, say the laws `replies_are_one` and `replies_are_complete` of `reply_laws`.
 pub fn flowcheck<F: Files, K: Sink>(
     alloc: Global,
     words: Vec<String>,
@@ -29,7 +28,7 @@ pub fn flowcheck<F: Files, K: Sink>(
     out: &mut K,
     books: &[RuleBook],
 ) -> u8
-    requires books { map (λ book. book.table) books.now ≡ 1 ∷ 2 ∷ [] }
+    requires books { map (λ book. book.table) books.now ≡ 1 ∷ 2 ∷ 3 ∷ [] }
     ensures known { IsTrue (is_listed (0 ∷ 1 ∷ 2 ∷ 3 ∷ 4 ∷ 5 ∷ 6 ∷ 7 ∷ 8 ∷ []) result) }
     ensures reply { result ≢ 8 →
         (reply : WholeReply) × IsReply (F.told files.old) (map string_bytes words.items) reply

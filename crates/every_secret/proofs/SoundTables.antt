@@ -1,4 +1,4 @@
--- The masks of both tables are words, and sound.
+-- The masks of each table are words, and sound.
 use Rattle.std.proofs.Common.{ℕ, ◌+◌, ◌-◌, ◌*◌, ◌%◌, ◌^◌, ◌≤◌, ◌<◌, Bool, true, false, refl, arith}
 use Rattle.std.specs.Prelude.{◌==◌, bit_and, bit_or, if◌then◌else◌}
 use Rattle.std.proofs.lemmas.Nat.{and_le_l, or_lt, xor_lt}
@@ -7,16 +7,19 @@ use Rattle.rv32im_decode.specs.Operations.{op_result}
 use Rattle.rv32im_machine.specs.declared.language.Operation.TheVariants.{Result, Decision, Target}
 use Rattle.transfer_rules.specs.declared.classes.Class.{Class}
 use Rattle.transfer_rules.specs.declared.classes.Class.TheVariants.{Add, Sub, And, Or, Xor, Sll, Srl, Sra, Slt, Sltu}
-use Rattle.transfer_rules.specs.declared.classes.Class.TheVariants.{Equal, Mul, High, Div}
+use Rattle.transfer_rules.specs.declared.classes.Class.TheVariants.{Equal, Mul, Mulh, Mulhsu, Mulhu, Div, Divu, Rem, Remu}
 use Rattle.transfer_rules.specs.declared.operands.Operands.{Operands}
 use Rattle.transfer_rules.specs.Classes.{branch_class, operation_class}
 use Rattle.transfer_rules.specs.Soundness.{AreWords, IsSound, IsSoundTarget}
 use Rattle.transfer_rules.specs.Table1.{all_mask, either, flipped, mask_by_table_1, one_mask, sum_mask}
 use Rattle.transfer_rules.specs.Table2.{greatest, least, lowest, mask_by_table_2}
+use Rattle.transfer_rules.specs.Table3.{if_secret, mask_by_table_3, quotient_range, remainder_range, span, unless_signed, upper_range}
 use Rattle.transfer_rules.specs.Tables.{Table}
 use Rattle.transfer_rules.proofs.Instructions.{target_by_sum}
 use Rattle.transfer_rules.proofs.Masks.{sound_by_table_1}
 use Rattle.transfer_rules.proofs.NarrowMasks.{sound_by_table_2}
+use Rattle.transfer_rules.proofs.RangeMasks.{sound_by_table_3}
+use Rattle.transfer_rules.proofs.ShiftRanges.{range_fits}
 use Rattle.transfer_rules.proofs.Shifts.{left_fits, right_fits, signed_fits}
 use Rattle.every_secret.specs.declared.public_inputs.PublicInput.{PublicInput}
 use Rattle.every_secret.specs.Rules.{AreSoundRules, TablesAreSound, rules_of}
@@ -65,8 +68,13 @@ table_1_word Slt o words = one_word (either o)
 table_1_word Sltu o words = one_word (either o)
 table_1_word Equal o words = one_word (either o)
 table_1_word Mul o words = sum_word (either o) (either_word o words)
-table_1_word High o words = all_word (either o)
+table_1_word Mulh o words = all_word (either o)
+table_1_word Mulhsu o words = all_word (either o)
+table_1_word Mulhu o words = all_word (either o)
 table_1_word Div o words = all_word (either o)
+table_1_word Divu o words = all_word (either o)
+table_1_word Rem o words = all_word (either o)
+table_1_word Remu o words = all_word (either o)
 
 table_2_word : (class : Class) (o : Operands) → AreWords o → mask_by_table_2 class o < 2 ^ 32
 table_2_word Add o words =
@@ -89,8 +97,62 @@ table_2_word Xor o words = table_1_word Xor o words
 table_2_word Sll o words = table_1_word Sll o words
 table_2_word Srl o words = table_1_word Srl o words
 table_2_word Sra o words = table_1_word Sra o words
-table_2_word High o words = table_1_word High o words
+table_2_word Mulh o words = table_1_word Mulh o words
+table_2_word Mulhsu o words = table_1_word Mulhsu o words
+table_2_word Mulhu o words = table_1_word Mulhu o words
 table_2_word Div o words = table_1_word Div o words
+table_2_word Divu o words = table_1_word Divu o words
+table_2_word Rem o words = table_1_word Rem o words
+table_2_word Remu o words = table_1_word Remu o words
+
+-- ---- the masks of ranges
+
+secret_word : (o : Operands) (range : Bounds → Bounds → ℕ) →
+    range (bounds_of o.v1 o.m1) (bounds_of o.v2 o.m2) < 2 ^ 32 → if_secret o range < 2 ^ 32
+secret_word o range small = choice_word (either o == 0) 0 _ (omega arith) small
+
+span_word : (x y : ℕ) → span x y < 2 ^ 32
+span_word x y =
+    let places = leading_zeros w32 (bit_xor x y) in
+    choice_word (x == y) 0 (4294967295 / 2 ^ places) (omega arith) (omega (arith, div-le_self 4294967295 (2 ^ places)))
+
+unsigned_word : (high mask : ℕ) → mask < 2 ^ 32 → unless_signed high mask < 2 ^ 32
+unsigned_word high mask small = choice_word (nat_lt high 2147483648) mask 4294967295 small (omega arith)
+
+quotient_word : (x y : Bounds) → quotient_range x y < 2 ^ 32
+quotient_word x y = choice_word (y.low == 0) 4294967295 _ (omega arith) (span_word (x.low / y.high) (x.high / y.low))
+
+remainder_word : (mask : ℕ) (x y : Bounds) → mask < 2 ^ 32 → remainder_range mask x y < 2 ^ 32
+remainder_word mask x y small =
+    choice_word (y.low == 0) 4294967295 _ (omega arith)
+    (choice_word (nat_lt x.high y.low) mask _ small (span_word 0 (min x.high (y.high - 1))))
+
+table_3_word : (class : Class) (o : Operands) → AreWords o → mask_by_table_3 class o < 2 ^ 32
+table_3_word Mul o words =
+    let x = bounds_of o.v1 o.m1 in
+    let y = bounds_of o.v2 o.m2 in
+    let small : mask_by_table_2 Mul o < 2 ^ 32 = table_2_word Mul o words in
+    let both : bit_and (mask_by_table_2 Mul o) (span (x.low * y.low) (x.high * y.high)) ≤ mask_by_table_2 Mul o =
+    and_le_l (mask_by_table_2 Mul o) (span (x.low * y.low) (x.high * y.high)) in
+    secret_word o _ (choice_word (nat_lt (x.high * y.high) (2 ^ 32)) _ (mask_by_table_2 Mul o) (omega (arith, both, small)) small)
+table_3_word Mulh o words = secret_word o _ (unsigned_word _ _ (unsigned_word _ _ (span_word _ _)))
+table_3_word Mulhsu o words = secret_word o _ (unsigned_word _ _ (span_word _ _))
+table_3_word Mulhu o words = secret_word o _ (span_word _ _)
+table_3_word Div o words = secret_word o _ (unsigned_word _ _ (unsigned_word _ _ (quotient_word _ _)))
+table_3_word Divu o words = secret_word o _ (quotient_word _ _)
+table_3_word Rem o words = secret_word o _ (unsigned_word _ _ (unsigned_word _ _ (remainder_word o.m1 _ _ words.1)))
+table_3_word Remu o words = secret_word o _ (remainder_word o.m1 _ _ words.1)
+table_3_word Sll o words = range_fits o op.Sll words refl
+table_3_word Srl o words = range_fits o op.Srl words refl
+table_3_word Sra o words = range_fits o op.Sra words refl
+table_3_word Add o words = table_2_word Add o words
+table_3_word Sub o words = table_2_word Sub o words
+table_3_word And o words = table_2_word And o words
+table_3_word Or o words = table_2_word Or o words
+table_3_word Xor o words = table_2_word Xor o words
+table_3_word Slt o words = table_2_word Slt o words
+table_3_word Sltu o words = table_2_word Sltu o words
+table_3_word Equal o words = table_2_word Equal o words
 
 -- ---- they are sound
 
@@ -113,4 +175,5 @@ pub tables_sound : TablesAreSound
 tables_sound public = (
   rules_sound mask_by_table_1 public table_1_word (λ class o words. sound_by_table_1 class o _ words refl),
   rules_sound mask_by_table_2 public table_2_word (λ class o words. sound_by_table_2 class o _ words refl),
+  rules_sound mask_by_table_3 public table_3_word (λ class o words. sound_by_table_3 class o _ words refl),
 )

@@ -8,6 +8,7 @@ use Rattle.transfer_rules.specs.declared.operands.Operands.{Operands}
 use Rattle.transfer_rules.specs.Soundness.{AreWords}
 use Rattle.transfer_rules.specs.Table1.{mask_by_table_1}
 use Rattle.transfer_rules.specs.Table2.{mask_by_table_2}
+use Rattle.transfer_rules.specs.Table3.{mask_by_table_3}
 use Rattle.transfer_rules.specs.Tables.{Table}
 use Rattle.run_labels.specs.Answers.{IsSoundAnswer, IsTableAnswer, mask_by, operands_of}
 use Rattle.every_secret.specs.declared.public_inputs.PublicInput.{PublicInput}
@@ -23,11 +24,11 @@ pub record Rules : Type 0 where
   pub computed : Operation → Operands → ℕ
   pub public : PublicInput
 
--- what table 1, or table 2, gives for an operation, where so much is known of the public input
+-- what a table gives for an operation, where so much is known of the public input
 abbrev pub rules_of : Table → PublicInput → Rules
 rules_of table public = record { computed = λ operation operands. mask_by operation operands table; public = public }
 
--- every answer of a book of the table with this number is that of the rules; so it is of table 1 and of table 2, and of a
+-- every answer of a book of the table with this number is that of the rules; so it is of tables 1, 2 and 3, and of a
 -- table of which nothing is said there are no such rules
 abbrev pub AnswerAs : ℕ → Rules → Type 0
 AnswerAs table rules =
@@ -45,13 +46,16 @@ abbrev pub answer_to : Rules → Work → List ℕ → ℕ
 answer_to rules (Shaped shape) masks = 0
 answer_to rules (Computed operation first second) masks = rules.computed operation (operands_of first second masks)
 
--- The law that the answers of a book of table 1 are those of that table, and so of table 2.
+-- The law that the answers of a book of table 1 are those of that table, and so of tables 2 and 3.
 abbrev pub TablesHaveRules : Type 0
 TablesHaveRules =
-    (public : PublicInput) → AnswerAs 1 (rules_of mask_by_table_1 public) × AnswerAs 2 (rules_of mask_by_table_2 public)
+    (public : PublicInput) →
+    AnswerAs 1 (rules_of mask_by_table_1 public) × AnswerAs 2 (rules_of mask_by_table_2 public)
+    × AnswerAs 3 (rules_of mask_by_table_3 public)
 
--- The law that the masks of both tables are sound, whatever the operands are.
+-- The law that the masks of each table are sound, whatever the operands are.
 abbrev pub TablesAreSound : Type 0
 TablesAreSound =
     (public : PublicInput) →
     AreSoundRules (rules_of mask_by_table_1 public) × AreSoundRules (rules_of mask_by_table_2 public)
+    × AreSoundRules (rules_of mask_by_table_3 public)

@@ -148,10 +148,10 @@ fn seen_bytes<'a>(known: PublicInput, public: &'a Bytes, zeros: &'a Bytes) -> &'
 /// 4,294,967,295 bits and a limit of turns: the replay of the cut is walked with masks along every string of bits that can
 /// cross, from each state once, and at most so many walks are made, 1 or more. What is answered is what the definition
 /// says of the tree of all paths, or that this tree has more paths than walks may be made. So it is for every book whose
-/// rules are a function, as those of the books of tables 1 and 2; of another book nothing is said. Where these rules are
-/// sound, as those of both tables, and the answer is bounded, it tells of all secrets, and of all pairs of a public input
-/// and a secret where the public input is not known: each whose run exits and breaks no region is accepted, and one of the
-/// patterns stands for its output.
+/// rules are a function, as those of the books of tables 1, 2 and 3; of another book nothing is said. Where these rules
+/// are sound, as those of these tables, and the answer is bounded, it tells of all secrets, and of all pairs of a public
+/// input and a secret where the public input is not known: each whose run exits and breaks no region is accepted, and one
+/// of the patterns stands for its output.
 /// `NoMemory` where there is not enough.
 pub fn bound(
     alloc: Global,

@@ -2,13 +2,13 @@ ghost use Rattle.every_secret.specs.Laws.{AllPairsLaw, AllSecretsLaw, RunLaw};
 ghost use Rattle.every_secret.specs.Rules.{TablesAreSound, TablesHaveRules};
 ghost use Rattle.every_secret.specs.States.{SameTreesLaw};
 
-/// A law, which does nothing when it is called: what a book of table 1 or of table 2 answers is a function, that of the
-/// table.
+/// A law, which does nothing when it is called: what a book of table 1, of table 2 or of table 3 answers is a function,
+/// that of the table.
 pub fn tables_have_rules()
     ensures { TablesHaveRules }
 {}
 
-/// A law, which does nothing when it is called: the rules of table 1, and of table 2, are sound.
+/// A law, which does nothing when it is called: the rules of tables 1, 2 and 3 are sound.
 pub fn tables_are_sound()
     ensures { TablesAreSound }
 {}

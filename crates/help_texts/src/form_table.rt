@@ -40,8 +40,8 @@ const REGIONS: Item = Item {
 
 const RULES: Item = Item {
     name: "rules",
-    takes: Takes::Number(1, 2),
-    help: "The table of the mask rules by which masks follow the run, 1 or 2; 1 without it",
+    takes: Takes::Number(1, 3),
+    help: "The table of the mask rules by which masks follow the run, 1, 2 or 3; 1 without it; 3 knows the least and the greatest that a number can be",
 };
 
 const VERSION: Item = Item {

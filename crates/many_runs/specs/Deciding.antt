@@ -1,4 +1,4 @@
--- What table 1 and table 2 decide of several runs.
+-- What tables 1, 2 and 3 decide of several runs.
 use Rattle.std.specs.Prelude.{◌≡◌, ℕ, List}
 use Rattle.many_runs.specs.declared.faults.ManyFault.{ManyFault}
 use Rattle.many_runs.specs.declared.faults.ManyFault.TheVariants.{Memory}

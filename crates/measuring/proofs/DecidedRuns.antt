@@ -1,6 +1,6 @@
--- The answers of a table decide a run: for lists of answers that are all by table 1, or all by table 2, labels, events
--- and refusals are the same.
-use Rattle.std.proofs.Common.{◌≡◌, ℕ, List, [], ◌∷◌, ◌++◌, refl, sym, ap, ap₂, subst, ◌∙◌, arith, ⊎_elim}
+-- The answers of a table decide a run: for lists of answers that are all by one of tables 1 to 3, labels, events and
+-- refusals are the same.
+use Rattle.std.proofs.Common.{◌≡◌, ℕ, List, [], ◌∷◌, ◌++◌, refl, sym, ap, ap₂, subst, ◌∙◌, arith}
 use Rattle.std.specs.Prelude.{◌==◌, if◌then◌else◌}
 use Rattle.enclosure_regions.specs.declared.region_parts.Region.{Region}
 use Rattle.flow_graph.specs.declared.events.Event.{Event}
@@ -17,7 +17,7 @@ use Rattle.rv32im_machine.specs.Language.{Walk, Looked, Passed, Moved, Saved, Re
 use Rattle.shadow_masks.specs.Pages.{label_of}
 use Rattle.shadow_masks.specs.Writes.{LabelMap}
 use Rattle.transfer_rules.specs.declared.operands.Operands.{Operands}
-use Rattle.run_labels.specs.Answers.{HoldsOfAnswer, IsTableAnswer, operands_of}
+use Rattle.run_labels.specs.Answers.{HoldsOfAnswer, IsTableAnswer, mask_by, operands_of}
 use Rattle.run_labels.specs.Traces.{traced, EachAnswer, labels_in, events_in, secret_look}
 use Rattle.run_labels.specs.Flowing.{flow_events}
 use Rattle.run_labels.specs.Looking.{look_fault}
@@ -29,14 +29,14 @@ use Rattle.run_labels.specs.TurnLabels.{TurnLabels, aim_label, at_start, put_lab
 use Rattle.measuring.specs.Deciding.{RunsAreDecided, RefusalsAreDecided}
 use Rattle.std.specs.Option.{option_or}
 use Rattle.transfer_rules.specs.Tables.{IsDeciding}
+use Rattle.transfer_rules.proofs.Deciding.{one_by_table}
 
 -- ---- one passing
 
 same_answer : (table : ℕ) → IsDeciding table → (operation : Operation) (operands : Operands) (first second : ℕ) →
     IsTableAnswer table operation operands first → IsTableAnswer table operation operands second → first ≡ second
 same_answer table deciding operation operands first second by also =
-    ⊎_elim (λ (one : table ≡ 1). by.0 one ∙ sym (also.0 one)) (λ (two : table ≡ 2). by.1 two ∙ sym (also.1 two))
-    deciding
+    one_by_table table (mask_by operation operands) first second deciding by also
 
 same_work : (table : ℕ) → IsDeciding table → (work : Work) (masks : List ℕ) (first second : ℕ) →
     HoldsOfAnswer (IsTableAnswer table) work masks first → HoldsOfAnswer (IsTableAnswer table) work masks second →

@@ -1,5 +1,5 @@
--- What table 1 and table 2 decide: they say what each answer of a mask rule is, so that a run has one measure or one
--- reason to be refused. Of the answers of other books nothing but their soundness is known.
+-- What tables 1, 2 and 3 decide: they say what each answer of a mask rule is, so that a run has one measure or one reason
+-- to be refused. Of the answers of other books nothing but their soundness is known.
 use Rattle.std.specs.Prelude.{◌≡◌, ℕ, List, length}
 use Rattle.enclosure_regions.specs.declared.region_parts.Region.{Region}
 use Rattle.run_labels.specs.Answers.{IsTableAnswer}

@@ -1,4 +1,4 @@
-//! What the program does: the answer to its words over files on a disk and standard output, by books of both tables of
+//! What the program does: the answer to its words over files on a disk and standard output, by books of all tables of
 //! mask rules; and texts for people.
 #![tactic(auto)]
 
@@ -12,7 +12,7 @@ use std::alloc::Global;
 use std::env;
 use std::io::ErrorKind;
 use std::process::ExitCode;
-use transfer_rules::{book_1, book_2};
+use transfer_rules::{book_1, book_2, book_3};
 
 /// The words after the program's name, or the status where they cannot be had: 8 where memory is out, else 9.
 fn words_of(rt: &HostRuntime, alloc: Global) -> Result<Vec<String>, u8> {
@@ -66,7 +66,7 @@ pub fn run(rt: HostRuntime) -> ExitCode {
     }
     let mut files = DiskFiles::new(rt);
     let mut out = KeepingSink::new(rt.alloc(), StandardOut::new(rt));
-    let books = [book_1!(), book_2!()];
+    let books = [book_1!(), book_2!(), book_3!()];
     let status = flowcheck(rt.alloc(), words, &mut files, &mut out, &books);
     explain(rt, status, out.kept());
     ExitCode::from(status)

@@ -27,7 +27,7 @@ use Rattle.command_line.specs.declared.judgings.Judging.{Judging}
 use Rattle.command_line.specs.declared.judgings.Judging.TheVariants.{Replay, Masks}
 use Rattle.command_line.specs.declared.tellings.Telling.{Telling}
 use Rattle.command_line.specs.declared.tellings.Telling.TheVariants.{CutText, Certificate, Report, Declaration}
-use Rattle.command_line.specs.CommandLines.{Run, Command, Checks, Bounds, Tells, MeasuresAll, Assembles, Lists, Verifies, Migrates, Tries, Fits, IsCommand, IsChoice}
+use Rattle.command_line.specs.CommandLines.{Run, Command, Checks, Bounds, Tells, MeasuresAll, Assembles, Lists, Verifies, Migrates, Tries, Fits, IsCommand, IsTable}
 use Rattle.command_line.specs.Parts.{Parts}
 use Rattle.command_tasks.specs.declared.refusals.Refusal.{Refusal}
 use Rattle.command_tasks.specs.declared.refusals.Refusal.TheVariants.{Run as RunRefused}
@@ -56,14 +56,13 @@ use Rattle.reply_laws.proofs.OneLearning.{learning_same}
 use Rattle.reply_laws.proofs.OneTask.{task_reading}
 use Rattle.reply_laws.proofs.OneUnion.{many_same}
 use Rattle.transfer_rules.specs.Tables.{IsDeciding}
+use Rattle.transfer_rules.proofs.Deciding.{deciding_within}
 
 -- ---- tables that decide
 
-decides : (value : Option (List ℕ)) (table : ℕ) → IsChoice value table → IsDeciding table
+decides : (value : Option (List ℕ)) (table : ℕ) → IsTable value table → IsDeciding table
 decides None table is = inl is
-decides (Some word) table is =
-    ⊎_elim (λ (more : 1 < table). inr (omega (arith, more, is.below)))
-    (λ (few : table ≤ 1). inl (omega (arith, few, is.above))) (cases_lt 1 table)
+decides (Some word) table is = deciding_within table is.above is.below
 
 -- a table of mask rules by which secrets are judged decides
 abbrev pub DecidesBy : Judging → Type 0

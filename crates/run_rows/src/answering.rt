@@ -8,7 +8,7 @@ use crate::guests::{Guest, Held};
 use crate::rows::{Row, row_of};
 use crate::{bounds, learning, measures, taints};
 use std::io;
-use transfer_rules::{Class, Operands, Rule, RuleBook, book_1, book_2, high_1};
+use transfer_rules::{Class, Operands, Rule, RuleBook, book_1, book_2, book_3, high_1};
 
 /// Prints the answer of a row by a book; whether there is one, and it is printed.
 fn print_by(rt: &HostRuntime, row: &Row<'_>, guest: &Guest<'_>, book: &RuleBook) -> bool {
@@ -31,6 +31,12 @@ fn print_by_1(rt: &HostRuntime, row: &Row<'_>, guest: &Guest<'_>) -> bool {
 /// Prints the answer of a row by the rules of table 2.
 fn print_by_2(rt: &HostRuntime, row: &Row<'_>, guest: &Guest<'_>) -> bool {
     let book = book_2!();
+    print_by(rt, row, guest, &book)
+}
+
+/// Prints the answer of a row by the rules of table 3.
+fn print_by_3(rt: &HostRuntime, row: &Row<'_>, guest: &Guest<'_>) -> bool {
+    let book = book_3!();
     print_by(rt, row, guest, &book)
 }
 
@@ -59,8 +65,13 @@ fn print_by_widest(rt: &HostRuntime, row: &Row<'_>, guest: &Guest<'_>) -> bool {
             Rule::new(Class::Sltu, 0, widest),
             Rule::new(Class::Equal, 0, widest),
             Rule::new(Class::Mul, 0, widest),
-            Rule::new(Class::High, 0, widest),
+            Rule::new(Class::Mulh, 0, widest),
+            Rule::new(Class::Mulhsu, 0, widest),
+            Rule::new(Class::Mulhu, 0, widest),
             Rule::new(Class::Div, 0, widest),
+            Rule::new(Class::Divu, 0, widest),
+            Rule::new(Class::Rem, 0, widest),
+            Rule::new(Class::Remu, 0, widest),
         ],
     );
     print_by(rt, row, guest, &book)
@@ -71,6 +82,7 @@ fn print_by_book(rt: &HostRuntime, row: &Row<'_>, guest: &Guest<'_>) -> bool {
     match row.limits.book {
         1 => print_by_1(rt, row, guest),
         2 => print_by_2(rt, row, guest),
+        3 => print_by_3(rt, row, guest),
         _ => print_by_widest(rt, row, guest),
     }
 }

@@ -1,6 +1,6 @@
--- The answers of a table decide the masks of a turn: for two lists of answers that are both by table 1, or both by
--- table 2, the masks after it, its first look and the first bits left at a decision are the same.
-use Rattle.std.proofs.Common.{◌≡◌, ℕ, List, ◌∷◌, Bool, true, false, refl, sym, ap, subst, ◌∙◌, ⊎_elim}
+-- The answers of a table decide the masks of a turn: for two lists of answers that are both by one of tables 1 to 3, the
+-- masks after it, its first look and the first bits left at a decision are the same.
+use Rattle.std.proofs.Common.{◌≡◌, ℕ, List, ◌∷◌, Bool, true, false, refl, sym, ap, subst, ◌∙◌}
 use Rattle.flow_base.specs.declared.points.Point.{Point}
 use Rattle.rv32im_machine.specs.declared.language.Operation.{Operation}
 use Rattle.rv32im_machine.specs.declared.language.Passing.{Passing}
@@ -9,7 +9,7 @@ use Rattle.rv32im_machine.specs.declared.language.Work.TheVariants.{Shaped, Comp
 use Rattle.rv32im_machine.specs.Language.{Walk, Looked, Passed, Moved, Saved, Restored, Ended, first_of}
 use Rattle.shadow_masks.specs.Pages.{label_of}
 use Rattle.transfer_rules.specs.declared.operands.Operands.{Operands}
-use Rattle.run_labels.specs.Answers.{HoldsOfAnswer, IsTableAnswer, operands_of}
+use Rattle.run_labels.specs.Answers.{HoldsOfAnswer, IsTableAnswer, mask_by, operands_of}
 use Rattle.run_labels.specs.Masks.{answered_mask, answers_after, masks_of, moved_label, work_mask}
 use Rattle.run_labels.specs.Runs.{entered_number}
 use Rattle.run_labels.specs.TurnLabels.{TurnLabels, aim_label, at_start, put_label, save_labels, restore_labels}
@@ -22,14 +22,14 @@ use Rattle.taint_check.specs.Cleared.{AnswersUnless, MaskedRun, cutting_at, kind
 use Rattle.taint_check.specs.Reasons.{left_unless, look_unless}
 use Rattle.flow_base.specs.Points.{nowhere}
 use Rattle.transfer_rules.specs.Tables.{IsDeciding}
+use Rattle.transfer_rules.proofs.Deciding.{one_by_table}
 
 -- ---- one passing
 
 same_answer : (table : ℕ) → IsDeciding table → (operation : Operation) (operands : Operands) (first second : ℕ) →
     IsTableAnswer table operation operands first → IsTableAnswer table operation operands second → first ≡ second
 same_answer table deciding operation operands first second by also =
-    ⊎_elim (λ (one : table ≡ 1). by.0 one ∙ sym (also.0 one)) (λ (two : table ≡ 2). by.1 two ∙ sym (also.1 two))
-    deciding
+    one_by_table table (mask_by operation operands) first second deciding by also
 
 same_work : (table : ℕ) → IsDeciding table → (work : Work) (masks : List ℕ) (first second : ℕ) →
     HoldsOfAnswer (IsTableAnswer table) work masks first → HoldsOfAnswer (IsTableAnswer table) work masks second →

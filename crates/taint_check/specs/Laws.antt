@@ -1,4 +1,4 @@
--- The laws of a check with one machine: a secret of which it is clean is accepted, and by table 1 or 2 it has one
+-- The laws of a check with one machine: a secret of which it is clean is accepted, and by tables 1, 2 and 3 it has one
 -- verdict.
 use Rattle.std.specs.Prelude.{◌≡◌, ℕ, Bool, true, List}
 use Rattle.cut_file.specs.Cuts.{CutPicture, is_cut_picture}

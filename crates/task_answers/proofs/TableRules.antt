@@ -9,11 +9,13 @@ pub record AreRules (table : ℕ) (public : PublicInput) : Type 0 where
   pub sound : AreSoundRules (rules_by table public)
   pub known : (rules_by table public).public ≡ public
 
-pub table_rules : TablesHaveRules → TablesAreSound → (table : ℕ) (public : PublicInput) → 1 ≤ table → table ≤ 2 →
+pub table_rules : TablesHaveRules → TablesAreSound → (table : ℕ) (public : PublicInput) → 1 ≤ table → table ≤ 3 →
     AreRules table public
 table_rules have sound zero public first last = absurd (omega (arith, first))
 table_rules have sound (suc zero) public first last =
     record { answers = (have public).0; sound = (sound public).0; known = refl }
 table_rules have sound (suc (suc zero)) public first last =
     record { answers = (have public).1; sound = (sound public).1; known = refl }
-table_rules have sound (suc (suc (suc more))) public first last = absurd (omega (arith, last))
+table_rules have sound (suc (suc (suc zero))) public first last =
+    record { answers = (have public).2; sound = (sound public).2; known = refl }
+table_rules have sound (suc (suc (suc (suc more)))) public first last = absurd (omega (arith, last))

@@ -3,6 +3,7 @@ use Rattle.std.specs.Prelude.{◌≡◌, ◌⊎◌, ◌==◌, ◌++◌, ℕ, Boo
 use Rattle.lockstep_replay.specs.Tasks.{Task as BoundTask, task_of}
 use Rattle.transfer_rules.specs.Table1.{mask_by_table_1}
 use Rattle.transfer_rules.specs.Table2.{mask_by_table_2}
+use Rattle.transfer_rules.specs.Table3.{mask_by_table_3}
 use Rattle.every_secret.specs.Bounds.{Answer as BoundAnswer, Bounds, HasMorePaths, IsBounded, IsLeastPower, IsUnclear}
 use Rattle.every_secret.specs.Bounds.{Summary, output_count, summary_of}
 use Rattle.every_secret.specs.declared.public_inputs.PublicInput.{PublicInput}
@@ -16,9 +17,12 @@ use Rattle.command_tasks.specs.Tasks.{AllSecretsTask}
 use Rattle.task_answers.specs.Answers.{Answer}
 use Rattle.task_answers.specs.BoundTexts.{bounded_line, listing, public_text, too_many_line, unclear_line}
 
--- the mask rules of table 1, and for every other number those of table 2, where so much is known of the public input
+-- the mask rules of tables 1 and 2, and for every other number those of table 3, where so much is known of the public
+-- input
 abbrev pub rules_by : ℕ → PublicInput → Rules
-rules_by table public = if table == 1 then rules_of mask_by_table_1 public else rules_of mask_by_table_2 public
+rules_by table public =
+    if table == 1 then rules_of mask_by_table_1 public
+    else (if table == 2 then rules_of mask_by_table_2 public else rules_of mask_by_table_3 public)
 
 -- what is known of the public input: its bytes, or how many they are
 abbrev pub public_of : AllSecretsTask → PublicInput

@@ -21,10 +21,10 @@ use std::alloc::Global;
 use transfer_rules::RuleBook;
 
 /// The answer to what a command asks for: a reply, or why it is refused. `books` has the books of the mask rules of
-/// table 1 and of table 2. The refusal is [`Refusal::Run`], [`Refusal::Runs`] or [`Refusal::Learn`] by the first cause that
-/// the run or the runs have, or [`Refusal::Memory`] out of memory.
+/// tables 1, 2 and 3, in this order. The refusal is [`Refusal::Run`], [`Refusal::Runs`] or [`Refusal::Learn`] by the first
+/// cause that the run or the runs have, or [`Refusal::Memory`] out of memory.
 pub fn answer_task(alloc: Global, task: &Task, books: &[RuleBook]) -> Result<Reply, Refusal>
-    requires books { map (λ book. book.table) books.now ≡ 1 ∷ 2 ∷ [] }
+    requires books { map (λ book. book.table) books.now ≡ 1 ∷ 2 ∷ 3 ∷ [] }
     requires bounded { IsBounded task.now }
     ensures { result ≢ Err Memory → AnswersTask (task_in task.now) result }
 {

@@ -36,7 +36,7 @@ fn verdict_on(
     all: &AllSecretsTask,
     books: &[RuleBook],
 ) -> Result<BoundVerdict, NoMemory>
-    requires books { map (λ book. book.table) books.now ≡ 1 ∷ 2 ∷ [] }
+    requires books { map (λ book. book.table) books.now ≡ 1 ∷ 2 ∷ 3 ∷ [] }
     requires bounded { IsBoundedAll all.now }
     ensures answer { IfOk result (λ verdict. IsVerdict (rules_by all.now.table (public_of (all_secrets_in all.now)))
         (seen_task (public_of (all_secrets_in all.now)) (bound_task (all_secrets_in all.now)))
@@ -110,7 +110,7 @@ fn too_many_reply(alloc: Global, all: &AllSecretsTask, path: &Bits) -> Result<Re
 
 /// The reply to all secrets whose outputs are to be bounded.
 pub fn bound_all(alloc: Global, all: &AllSecretsTask, books: &[RuleBook]) -> Result<Reply, NoMemory>
-    requires books { map (λ book. book.table) books.now ≡ 1 ∷ 2 ∷ [] }
+    requires books { map (λ book. book.table) books.now ≡ 1 ∷ 2 ∷ 3 ∷ [] }
     requires bounded { IsBoundedAll all.now }
     ensures { IfOk result (λ reply. AnswersAllSecrets (all_secrets_in all.now) (Fine reply)) }
 {

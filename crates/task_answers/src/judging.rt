@@ -137,7 +137,7 @@ fn replay_secrets(
 
 /// The reply to secrets that are to be judged, each from a fresh start.
 pub fn judge_secrets(alloc: Global, task: &CheckTask, books: &[RuleBook]) -> Result<Reply, NoMemory>
-    requires books { map (λ book. book.table) books.now ≡ 1 ∷ 2 ∷ [] }
+    requires books { map (λ book. book.table) books.now ≡ 1 ∷ 2 ∷ 3 ∷ [] }
     requires bounded { IsBoundedCheck task.now }
     ensures { IfOk result (λ reply. AnswersCheck (check_in task.now) (Fine reply)) }
 {

@@ -19,7 +19,7 @@ fn measured_together(
     runs: &ManyRunsTask,
     books: &[RuleBook],
 ) -> Result<Many, Refusal>
-    requires books { map (λ book. book.table) books.now ≡ 1 ∷ 2 ∷ [] }
+    requires books { map (λ book. book.table) books.now ≡ 1 ∷ 2 ∷ 3 ∷ [] }
     requires bounded { AreBoundedRuns runs.now }
     ensures ok { IfOk result (λ many. AreMeasured (many_runs_in runs.now) many) }
     ensures err { IfErr result (λ refusal. refusal ≢ Memory → IsRunsRefusal (many_runs_in runs.now) refusal) }
@@ -43,7 +43,7 @@ pub fn tell_many(
     runs: &ManyRunsTask,
     books: &[RuleBook],
 ) -> Result<Reply, Refusal>
-    requires books { map (λ book. book.table) books.now ≡ 1 ∷ 2 ∷ [] }
+    requires books { map (λ book. book.table) books.now ≡ 1 ∷ 2 ∷ 3 ∷ [] }
     requires bounded { AreBoundedRuns runs.now }
     ensures { result ≢ Err Memory → AnswersMany version (many_runs_in runs.now) result }
 {

@@ -11,7 +11,7 @@ use transfer_rules::RuleBook;
 
 /// What is measured of a run, or why it is refused.
 pub fn measured(alloc: Global, run: &RunTask, books: &[RuleBook]) -> Result<Measured, Refusal>
-    requires books { map (λ book. book.table) books.now ≡ 1 ∷ 2 ∷ [] }
+    requires books { map (λ book. book.table) books.now ≡ 1 ∷ 2 ∷ 3 ∷ [] }
     requires bounded { IsBoundedRun run.now }
     ensures ok { IfOk result (λ measured. IsMeasured (run_in run.now) measured) }
     ensures err { IfErr result (λ refusal. refusal ≢ Memory → IsRunRefusal (run_in run.now) refusal) }

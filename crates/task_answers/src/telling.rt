@@ -68,7 +68,7 @@ fn tell_cut(
     run: &RunTask,
     books: &[RuleBook],
 ) -> Result<Reply, Refusal>
-    requires books { map (λ book. book.table) books.now ≡ 1 ∷ 2 ∷ [] }
+    requires books { map (λ book. book.table) books.now ≡ 1 ∷ 2 ∷ 3 ∷ [] }
     requires bounded { IsBoundedRun run.now }
     ensures { result ≢ Err Memory → AnswersRun (run_in run.now) (Tells (IsCutOfRun version)) result }
 {
@@ -79,7 +79,7 @@ fn tell_cut(
 
 /// Measures a run, and tells its certificate.
 fn tell_certificate(alloc: Global, run: &RunTask, books: &[RuleBook]) -> Result<Reply, Refusal>
-    requires books { map (λ book. book.table) books.now ≡ 1 ∷ 2 ∷ [] }
+    requires books { map (λ book. book.table) books.now ≡ 1 ∷ 2 ∷ 3 ∷ [] }
     requires bounded { IsBoundedRun run.now }
     ensures { result ≢ Err Memory → AnswersRun (run_in run.now) (Tells IsCertificateText) result }
 {
@@ -95,7 +95,7 @@ fn tell_report(
     run: &RunTask,
     books: &[RuleBook],
 ) -> Result<Reply, Refusal>
-    requires books { map (λ book. book.table) books.now ≡ 1 ∷ 2 ∷ [] }
+    requires books { map (λ book. book.table) books.now ≡ 1 ∷ 2 ∷ 3 ∷ [] }
     requires bounded { IsBoundedRun run.now }
     ensures { result ≢ Err Memory → AnswersRun (run_in run.now) (Tells (IsReport json)) result }
 {
@@ -111,7 +111,7 @@ pub fn tell_run(
     run: &RunTask,
     books: &[RuleBook],
 ) -> Result<Reply, Refusal>
-    requires books { map (λ book. book.table) books.now ≡ 1 ∷ 2 ∷ [] }
+    requires books { map (λ book. book.table) books.now ≡ 1 ∷ 2 ∷ 3 ∷ [] }
     requires bounded { IsBoundedRun run.now }
     ensures { result ≢ Err Memory → AnswersTelling telling (run_in run.now) result }
 {

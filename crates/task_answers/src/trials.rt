@@ -128,7 +128,7 @@ fn line_of_run(
 
 /// Measures the run of a trial, and judges it.
 fn try_run(alloc: Global, number: u32, run: &RunTask, books: &[RuleBook]) -> Result<Reply, Refusal>
-    requires books { map (λ book. book.table) books.now ≡ 1 ∷ 2 ∷ [] }
+    requires books { map (λ book. book.table) books.now ≡ 1 ∷ 2 ∷ 3 ∷ [] }
     requires bounded { IsBoundedRun run.now }
     requires run { run_in run.now ≡ run_of_number number }
     requires short { length run.now.secret.now ≤ 2000 }
@@ -141,7 +141,7 @@ fn try_run(alloc: Global, number: u32, run: &RunTask, books: &[RuleBook]) -> Res
 
 /// Measures the guest of the number, and judges it by the lockstep with its own cut and number of bits.
 pub fn try_number(alloc: Global, number: u32, books: &[RuleBook]) -> Result<Reply, Refusal>
-    requires books { map (λ book. book.table) books.now ≡ 1 ∷ 2 ∷ [] }
+    requires books { map (λ book. book.table) books.now ≡ 1 ∷ 2 ∷ 3 ∷ [] }
     ensures { result ≢ Err Memory → AnswersRun (run_of_number number) (TellsTrial number) result }
 {
     let image = image(alloc, number)?;

@@ -2,6 +2,7 @@ pub mod Agreement
 pub mod BitRules
 pub mod Bounds
 pub mod Carries
+pub mod Deciding
 pub mod Instructions
 pub mod Masks
 pub mod NarrowMasks
@@ -10,7 +11,7 @@ pub mod Operations
 pub mod Orders
 mod Places
 pub mod Products
-mod RangeMasks
+pub mod RangeMasks
 pub mod Results
 pub mod ShiftRanges
 pub mod Shifts

@@ -155,8 +155,8 @@ pub const REGIONS: [Row; 4] = [
         text: Text("refused 5 load none\n"),
     },
     Row {
-        name: "there is no third table of mask rules",
-        words: "taint prog public cut 0 s3 --rules 3",
+        name: "there is no fourth table of mask rules",
+        words: "taint prog public cut 0 s3 --rules 4",
         files: &LOW_LOWEST,
         failing: Nothing,
         loads: 0,

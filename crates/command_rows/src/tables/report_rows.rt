@@ -116,8 +116,8 @@ pub const REPORTS: [Row; 9] = [
     },
 ];
 
-/// Two guests of which table 2 finds that nothing of the secret is given away.
-pub const TABLES: [Row; 5] = [
+/// Two guests of which tables 2 and 3 find that nothing of the secret is given away.
+pub const TABLES: [Row; 7] = [
     Row {
         name: "a comparison by table 1",
         words: "measure prog public s7 --rules 1",
@@ -130,6 +130,15 @@ pub const TABLES: [Row; 5] = [
     Row {
         name: "a comparison by table 2",
         words: "measure prog public s7 --rules=2",
+        files: &[("prog", Code(&SMALL))],
+        failing: Nothing,
+        loads: 3,
+        status: 0,
+        text: Text(NO_BITS),
+    },
+    Row {
+        name: "a comparison by table 3",
+        words: "measure prog public s7 --rules=3",
         files: &[("prog", Code(&SMALL))],
         failing: Nothing,
         loads: 3,
@@ -155,8 +164,17 @@ pub const TABLES: [Row; 5] = [
         text: Text(NO_BITS),
     },
     Row {
-        name: "there is no table 3",
+        name: "a shift by table 3",
         words: "measure prog public s7 --rules 3",
+        files: &[("prog", Code(&SHIFTED))],
+        failing: Nothing,
+        loads: 3,
+        status: 0,
+        text: Text(NO_BITS),
+    },
+    Row {
+        name: "there is no table 4",
+        words: "measure prog public s7 --rules 4",
         files: &[("prog", Code(&SHIFTED))],
         failing: Nothing,
         loads: 0,

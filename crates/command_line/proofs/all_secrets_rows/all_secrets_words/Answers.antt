@@ -24,8 +24,8 @@ returns-in_default-limits_of-clause-none c = λ e. λ all. λ is.
     (fourth_mapped (λ word. word.now) c.as_slice.result.now all.guest.program all.guest.public_input all.cut is.budget [] _
     (rw c.as_slice.ensures is.plain)) is.bits) is.turns
 
-pub returns-in_default-choice_in-clause-none : goal.returns-in_default-choice_in-clause-none
-returns-in_default-choice_in-clause-none c = λ e. λ all. λ is. c.choice_in.ensures.none (search rules) all.table is.rules
+pub returns-in_default-table_in-clause-none : goal.returns-in_default-table_in-clause-none
+returns-in_default-table_in-clause-none c = λ e. λ all. λ is. c.table_in.ensures.none (search rules) all.table is.rules
 
 pub returns-clause-is : goal.returns-clause-is
 returns-clause-is c = record {
@@ -35,7 +35,7 @@ returns-clause-is c = record {
   bits = rw c.in-Some.is at c.limits_of.ensures.bits;
   turns = rw c.in-Some.is at c.limits_of.ensures.turns;
   regions = search rules;
-  rules = rw c.in-Some-choice_in.is at c.choice_in.ensures.is;
+  rules = rw c.in-Some-table_in.is at c.table_in.ensures.is;
   paths = rw (c.value_of.ensures, c.as_slice-options.ensures, c.in-Some-paths_of.is) at c.paths_of.ensures.is;
   any_public = search rules;
   listed = search rules;
