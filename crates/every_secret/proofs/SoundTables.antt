@@ -1,6 +1,7 @@
 -- The masks of each table are words, and sound.
-use Rattle.std.proofs.Common.{ℕ, ◌+◌, ◌-◌, ◌*◌, ◌%◌, ◌^◌, ◌≤◌, ◌<◌, Bool, true, false, refl, arith}
-use Rattle.std.specs.Prelude.{◌==◌, bit_and, bit_or, if◌then◌else◌}
+use Rattle.std.proofs.Common.{ℕ, ◌+◌, ◌-◌, ◌*◌, ◌/◌, ◌%◌, ◌^◌, ◌≤◌, ◌<◌, Bool, true, false, refl, arith, w32, div-le_self}
+use Rattle.std.specs.Prelude.{◌==◌, nat_lt, min, bit_and, bit_or, bit_xor, if◌then◌else◌}
+use Rattle.std.specs.Int.{leading_zeros}
 use Rattle.std.proofs.lemmas.Nat.{and_le_l, or_lt, xor_lt}
 use Rattle.rv32im_decode.specs.declared.instructions.OpKind.TheVariants as op
 use Rattle.rv32im_decode.specs.Operations.{op_result}
@@ -9,11 +10,12 @@ use Rattle.transfer_rules.specs.declared.classes.Class.{Class}
 use Rattle.transfer_rules.specs.declared.classes.Class.TheVariants.{Add, Sub, And, Or, Xor, Sll, Srl, Sra, Slt, Sltu}
 use Rattle.transfer_rules.specs.declared.classes.Class.TheVariants.{Equal, Mul, Mulh, Mulhsu, Mulhu, Div, Divu, Rem, Remu}
 use Rattle.transfer_rules.specs.declared.operands.Operands.{Operands}
+use Rattle.transfer_rules.specs.declared.ranges.Bounds.{Bounds}
 use Rattle.transfer_rules.specs.Classes.{branch_class, operation_class}
 use Rattle.transfer_rules.specs.Soundness.{AreWords, IsSound, IsSoundTarget}
 use Rattle.transfer_rules.specs.Table1.{all_mask, either, flipped, mask_by_table_1, one_mask, sum_mask}
 use Rattle.transfer_rules.specs.Table2.{greatest, least, lowest, mask_by_table_2}
-use Rattle.transfer_rules.specs.Table3.{if_secret, mask_by_table_3, quotient_range, remainder_range, span, unless_signed, upper_range}
+use Rattle.transfer_rules.specs.Table3.{bounds_of, if_secret, mask_by_table_3, quotient_range, remainder_range, span, unless_signed, upper_range}
 use Rattle.transfer_rules.specs.Tables.{Table}
 use Rattle.transfer_rules.proofs.Instructions.{target_by_sum}
 use Rattle.transfer_rules.proofs.Masks.{sound_by_table_1}
