@@ -1,7 +1,8 @@
 """The mask rules: which bits of a result may change with the secret bits of its two operands.
 
 A rule takes each operand as its value and its mask (v1, m1, v2, m2) and gives the mask of the result. Table 2 has rules
-of its own for six classes, and those of table 1 for the others."""
+of its own for six classes, and those of table 1 for the others. Table 3 has rules of its own for eleven, by the least and
+the greatest that each operand can be as a number without a sign, and those of table 2 for the others."""
 from instructions import ALL, sign_extended, signed
 
 TOP = 0x80000000
@@ -60,9 +61,7 @@ TABLE_1 = {
     "sltu": one_bit,
     "equal": one_bit,
     "mul": carried,
-    "high": everything,
-    "div": everything,
-}
+} | dict.fromkeys(("mulh", "mulhsu", "mulhu", "div", "divu", "rem", "remu"), everything)
 
 
 def bounds(value, mask):
@@ -113,11 +112,86 @@ TABLE_2 = TABLE_1 | {
     "equal": narrow_equal,
     "mul": narrow_multiply,
 }
-TABLES = {1: TABLE_1, 2: TABLE_2}
-CLASSES = {name: name for name in ("add", "sub", "and", "or", "xor", "sll", "srl", "sra", "slt", "sltu", "mul")}
+
+
+def span(first, second):
+    """All bits from the highest in which two numbers differ down to the lowest."""
+    return (1 << (first ^ second).bit_length()) - 1
+
+
+def spanned_multiply(v1, m1, v2, m2):
+    """That of table 2, of which only the bits below the greatest difference are left where no product is too large."""
+    (least1, most1), (least2, most2) = bounds(v1, m1), bounds(v2, m2)
+    mask = narrow_multiply(v1, m1, v2, m2)
+    return mask & span(least1 * least2, most1 * most2) if most1 * most2 <= ALL else mask
+
+
+def spanned_high(v1, m1, v2, m2):
+    """Between the high halves of the least and of the greatest product."""
+    (least1, most1), (least2, most2) = bounds(v1, m1), bounds(v2, m2)
+    return span(least1 * least2 >> 32, most1 * most2 >> 32)
+
+
+def spanned_quotient(v1, m1, v2, m2):
+    """Between the least and the greatest quotient, where the divisor is not 0."""
+    (least1, most1), (least2, most2) = bounds(v1, m1), bounds(v2, m2)
+    return span(least1 // most2, most1 // least2) if least2 else ALL
+
+
+def spanned_remainder(v1, m1, v2, m2):
+    """The mask of what is less than the divisor; else between 0 and the greatest remainder, where that is not 0."""
+    (_, most1), (least2, most2) = bounds(v1, m1), bounds(v2, m2)
+    if not least2:
+        return ALL
+    return m1 if most1 < least2 else span(0, min(most1, most2 - 1))
+
+
+def if_positive(rule, signs=2):
+    """A rule where so many operands, the first ones, have no sign; else all bits."""
+    return lambda *operands: ALL if any(map(may_be_negative, operands[: 2 * signs])) else rule(*operands)
+
+
+def may_be_negative(bits):
+    """Whether a value or a mask has the highest bit."""
+    return bool(bits & TOP)
+
+
+def if_secret(rule):
+    """A rule; nothing where no bit is secret."""
+    return lambda v1, m1, v2, m2: rule(v1, m1, v2, m2) if m1 | m2 else 0
+
+
+def spanned_shift(shift):
+    """The rule of a shift: the bits that are 1 in the greatest by some number of places, and 0 in the least by some."""
+    def rule(v1, m1, v2, m2):
+        least, most = bounds(v1, m1)
+        may_be_1, must_be_1 = 0, ALL
+        for places in range(32):
+            if (places ^ v2) & ~m2 & 31 == 0:
+                may_be_1, must_be_1 = may_be_1 | shift(most, places) & ALL, must_be_1 & shift(least, places)
+        return may_be_1 & ~must_be_1
+    return rule
+
+
+TABLE_3 = TABLE_2 | {
+    name: if_secret(rule) for name, rule in {
+        "mul": spanned_multiply,
+        "mulhu": spanned_high,
+        "mulh": if_positive(spanned_high),
+        "mulhsu": if_positive(spanned_high, 1),
+        "divu": spanned_quotient,
+        "remu": spanned_remainder,
+        "div": if_positive(spanned_quotient),
+        "rem": if_positive(spanned_remainder),
+        "sll": spanned_shift(lambda value, places: value << places),
+        "srl": spanned_shift(lambda value, places: value >> places),
+        "sra": spanned_shift(lambda value, places: signed(value) >> places),
+    }.items()
+}
+TABLES = {1: TABLE_1, 2: TABLE_2, 3: TABLE_3}
+# each operation with the class of its rule: there are nineteen
+CLASSES = {name: name for name in TABLE_1 if name != "equal"}
 CLASSES |= {"beq": "equal", "bne": "equal", "blt": "slt", "bge": "slt", "bltu": "sltu", "bgeu": "sltu"}
-CLASSES |= {"mulh": "high", "mulhsu": "high", "mulhu": "high"}
-CLASSES |= {"div": "div", "divu": "div", "rem": "div", "remu": "div"}
 
 
 def result_mask(table, name, first, second):
