@@ -15,9 +15,9 @@ from worked_trial import trial_line
 
 MOST_TURNS, MOST_SECRETS, MOST_WORD = 20_000_000, 64, 0xFFFFFFFF
 MOST_PATHS, USUAL_PATHS = 1 << 20, 1 << 16
-FLAGS = {("report", "--json"), ("bound", "--list")}
+FLAGS = {("report", "--json"), ("bound", "--list"), ("bound", "--any-public")}
 PROGRAM, PUBLIC, SECRET, TEXT, REGIONS = 1 << 24, 1 << 20, 1 << 16, 1 << 26, 1 << 16
-NUMBERS = {"--turns": (1, MOST_TURNS), "--rules": (1, 2), "--cut": (1, 2), "--paths": (1, MOST_PATHS)}
+NUMBERS = {"--turns": (1, MOST_TURNS), "--rules": (1, 3), "--cut": (1, 2), "--paths": (1, MOST_PATHS)}
 OPTIONS = {
     "measure": {"--regions", "--turns", "--rules", "--cut"},
     "measure-all": {"--regions", "--turns", "--rules", "--cut"},
@@ -195,8 +195,9 @@ def bound_answer(files, plain, options):
     listed = read_regions(files[regions]) if regions else []
     numbers = (("--rules", 1), ("--turns", USUAL_TURNS), ("--paths", USUAL_PATHS))
     table, turns, paths = (int(options.get(*number)) for number in numbers)
-    task = Task(Image(files[program]), files[public], listed, read_cut(files[cut]), table, int(budget), turns, paths)
-    return Bounds(task).text("--list" in options)
+    limits = int(budget), turns, paths, "--any-public" in options
+    return Bounds(Task(Image(files[program]), files[public], listed, read_cut(files[cut]), table, *limits)).text(
+        "--list" in options)
 
 
 def migrate_answer(files, name):

@@ -2,7 +2,8 @@
 
 A walk knows of each register and byte the value of the replay and a mask: the bits that may differ in the run of another
 secret that has come the same way. Of the bits that cross at a visit those outside the mask are the replay's own, those of
-an output are free, and each other one is a choice, the next bit of the path.
+an output are free, and each other one is a choice, the next bit of the path. Where the public input may be any, its bytes
+are walked as zeros with masks too.
 
 From one state on everything is the same, but for the turns and the bits that are left. So a walk ends where it comes to
 a state all of whose paths are known, and as many turns and bits are left as the longest of them want."""
@@ -27,8 +28,8 @@ class TurnMasks:
     """The masks of a walk. A turn is a coroutine beside that of the guest: at each visit it yields the mask of the value,
     and it is sent the value that goes on with the mask that is left."""
 
-    def __init__(self, table, guest):
-        self.table, self.guest = table, guest
+    def __init__(self, table, guest, public_mask=0):
+        self.table, self.guest, self.public_mask = table, guest, public_mask
         self.registers, self.bytes, self.at_entry, self.consumed = [0] * 32, {}, [], {}
 
     def byte(self, address):
@@ -178,7 +179,7 @@ class TurnMasks:
         most = min(count, len(guest.inputs.get(descriptor, b"")) - begin)
         is_read = most > 0 and guest.is_inside(address, most)
         for index in range(most if is_read else 0):
-            self.bytes[address + index] = (yield 255)[1] if descriptor == SECRET else 0
+            self.bytes[address + index] = (yield 255)[1] if descriptor == SECRET else self.public_mask
 
 
 FORMS = {form: getattr(TurnMasks, form) for form in (
@@ -193,7 +194,8 @@ class Walk:
 
     def __init__(self, task, path):
         self.guest = ReplayGuest(task.image, task.public, bytes(task.cut.secret_length), task.regions)
-        self.cut_masks, self.masks = VisitMasks(task.cut), TurnMasks(task.table, self.guest)
+        self.cut_masks = VisitMasks(task.cut)
+        self.masks = TurnMasks(task.table, self.guest, 255 if task.is_any_public else 0)
         self.task, self.path, self.choices, self.crossed, self.free = task, path, [], 0, []
         self.made, self.ending, self.unclear = 0, None, None
         self.repeating = {point: repeating(*masks) for point, masks in task.cut.points.items()}
@@ -291,11 +293,18 @@ class Walk:
 
 
 class Task:
-    """What is walked: a program on its public input, its regions, a cut, the table of the rules, and the limits."""
+    """What is walked: a program on its public input, or on zeros in the place of any of that length, its regions, a cut,
+    the table of the rules, and the limits."""
 
-    def __init__(self, image, public, regions, cut, table, budget, turns, paths):
-        self.image, self.public, self.regions, self.cut, self.table = image, public, regions, cut, table
+    def __init__(self, image, public, regions, cut, table, budget, turns, paths, is_any_public=False):
+        self.image, self.regions, self.cut, self.table = image, regions, cut, table
+        self.public, self.is_any_public = bytes(len(public)) if is_any_public else public, is_any_public
         self.budget, self.turns, self.paths = budget, turns, paths
+
+    def lengths(self):
+        """The number of secret bytes, and of public ones where these may be any, as a headline has them."""
+        public = f" public {len(self.public)}" if self.is_any_public else ""
+        return f"secret {self.cut.secret_length}{public}"
 
 
 def behind(choices):
@@ -412,7 +421,7 @@ class Bounds:
             lines += [self.first] if self.first else []
         bits = (outputs - 1).bit_length() if outputs else 0
         lines.append(
-            f"bounded secret {task.cut.secret_length} regions {len(task.regions)} paths {counted(self.paths)} "
+            f"bounded {task.lengths()} regions {len(task.regions)} paths {counted(self.paths)} "
             f"stopped {counted(self.stopped)} outputs {counted(outputs)} bits {bits}"
         )
         return 0, "\n".join(lines) + "\n"
