@@ -7,7 +7,6 @@ from os.path import basename as base
 from answering import command_words
 from bound_words import ADVICE, FREE_WORDS, advice_at, claim, numbers_words, reason_kind
 from bounding import Bounding, choices_by_point
-from bounds import Task
 from cuts import read_cut
 from decision_tree import MOST_LINES, MOST_PATHS, DecisionTree, TooMany, address_words, walks_of
 from document import Commands, Section, Table, Words
@@ -50,10 +49,8 @@ class Bounded:
         paths = self.answer.numbers["paths"]
         if paths is None or paths > MOST_PATHS:
             return None
-        limits = self.budget, self.bounding.turns, self.bounding.paths
-        named = self.program.image, self.bounding.public, self.bounding.regions, self.cut, self.bounding.table
         try:
-            walks = walks_of(Task(*named, *limits))
+            walks = walks_of(self.bounding.task(self.cut, self.budget))
         except TooMany:
             return None
         return walks if len(walks) == paths else None
