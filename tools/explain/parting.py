@@ -108,9 +108,9 @@ class Differences:
     def look(self, point, visit, state, writers):
         """Sets a state beside the first of the same visit."""
         if point == self.point:
-            first = self.first.setdefault(visit, state)
+            first, earlier = self.first.setdefault(visit, (state, dict(writers)))
             if first is not state:
-                self.compare(first, state, writers)
+                self.compare(first, state, earlier | writers)
 
     def compare(self, first, state, writers):
         """Adds what differs between two states."""
@@ -136,18 +136,19 @@ class Differences:
         return lines + [text for kind, text in told.items() if self.kinds[kind][None]]
 
     def byte_lines(self, program, places):
-        """The bytes that differ, by the instruction that wrote them."""
-        by_writer, often = {}, Counter()
-        for (address, writer), count in self.kinds[BYTES].items():
-            by_writer.setdefault(writer, set()).add(address)
-            often[writer] += count
+        """The bytes that differ, by the instruction that wrote them most often."""
+        writers, by_writer, often = {}, {}, Counter()
+        for (address, writer), count in self.kinds[BYTES].most_common():
+            often[address] += count
+            writers[address] = writers.get(address) or writer
+        for address, writer in writers.items():
+            by_writer.setdefault(writer, []).append(address)
         lines = []
-        for writer, _ in often.most_common(MOST_TOLD):
-            addresses = by_writer[writer]
-            number = f"{len(addresses):,} byte{'s' * (len(addresses) > 1)}"
-            named = program.object_at(min(addresses))
-            name = f" of {named.name}" if named else f" from {shown(min(addresses))} on"
-            lines.append(f"{number}{name}{writer_words(writer, program, places)}")
+        for writer in sorted(by_writer, key=lambda one: -sum(often[address] for address in by_writer[one]))[:MOST_TOLD]:
+            first, count = min(by_writer[writer]), len(by_writer[writer])
+            named = program.object_at(first)
+            name = f" of {named.name}" if named else f" from {shown(first)} on"
+            lines.append(f"{count:,} byte{'s' * (count > 1)}{name}{writer_words(writer, program, places)}")
         return lines
 
     def register_lines(self, program, places):
@@ -155,7 +156,7 @@ class Differences:
         often, writers = Counter(), {}
         for (number, writer), count in self.kinds[REGISTERS].most_common():
             often[number] += count
-            writers.setdefault(number, writer)
+            writers[number] = writers.get(number) or writer
         return [f"register {NAMES[number]}{writer_words(writers[number], program, places)}"
                 for number, _ in often.most_common(MOST_TOLD)]
 
