@@ -23,6 +23,7 @@ path stops, it speaks of all secrets; else of every secret whose run ends and br
 meanwhile which call of `bound` it waits for. The status is 0 where it is bounded."""
 import os
 import sys
+import textwrap
 
 HERE = os.path.dirname(os.path.abspath(__file__))
 sys.path[:0] = [os.path.join(HERE, "explain"), os.path.join(HERE, "model")]
@@ -36,7 +37,7 @@ from run_words import parser_of
 from source_lines import Places
 from tool import finish, program_of, told
 
-MOST_LENGTH = 65_536
+MOST_LENGTH, WIDTH = 65_536, 115
 OPTIONS = ("regions", "turns", "rules", "paths")
 
 
@@ -79,6 +80,12 @@ def parting_of(bounding, answer):
     return Parting(bounding.task(answer.cut, answer.budget)) if answer.is_waiting() else None
 
 
+def say(lines):
+    """Prints lines; sentences are broken where they are long."""
+    for line in lines:
+        print(line if line.startswith(" ") else textwrap.fill(line, WIDTH, break_long_words=False, break_on_hyphens=False))
+
+
 def main():
     """Searches, writes the cut, and says what was found."""
     words = arguments()
@@ -93,10 +100,10 @@ def main():
         out.write(answer.cut.text())
     again = command(words, answer, bounding)
     if answer.is_bounded:
-        print("\n".join(bounded_lines(answer, words.public, bounding.turns, bits, again)))
+        say(bounded_lines(answer, words.public, bounding.turns, bits, again))
         return 0
     parting = parting_of(bounding, answer)
-    print("\n".join(unclear_lines(answer, walk, program, Places(words.program, program), again, parting)))
+    say(unclear_lines(answer, walk, program, Places(words.program, program), again, parting))
     return 1
 
 

@@ -39,7 +39,7 @@ from source_lines import Places
 
 PATHS, TURNS, ROUNDS, SECRETS = 24, 400, 40, 20
 ENDED = ("region", "guest", "turns")
-APART = "What keeps them apart there:\n    "
+APART = "What keeps them apart there: "
 # The source, the public input, the length of the secret, options, the status and texts that must be printed.
 GUESTS = [
     ("examples/pinpad/pinpad.c", bytes(12), 4, ["--any-public"], 0,
@@ -115,7 +115,8 @@ def guest_wrongs(folder, compiler, flowcheck):
         words = [sys.executable, os.path.join(TOOLS, "bound.py"), program, files.write("public", public), str(length)]
         words += [*options, "--output", files.path("cut"), *(["--flowcheck", flowcheck] if flowcheck else [])]
         done = subprocess.run(words, stdout=subprocess.PIPE, stderr=subprocess.STDOUT, check=False, text=True)
-        missing = [text for text in wanted if text not in done.stdout]
+        told = " ".join(done.stdout.split())
+        missing = [text for text in wanted if text not in told]
         is_right = done.returncode == status and not missing
         yield os.path.basename(source), None if is_right else f"{source}: {missing}\n{done.stdout}"
 
