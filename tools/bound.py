@@ -1,37 +1,43 @@
 """Looks for a cut with which `bound` says all outputs that secrets of one length can give.
 
-Call: bound.py PROG PUBLIC LENGTH|SECRET... [--regions FILE] [--turns N] [--rules N] [--paths N] [--rounds N]
-               [--output FILE] [--flowcheck COMMAND]
+Call: bound.py PROG PUBLIC LENGTH|SECRET... [--any-public] [--regions FILE] [--turns N] [--rules N] [--paths N]
+               [--rounds N] [--output FILE] [--flowcheck COMMAND]
 
 It begins with the cut of the secrets, as `measure` or `measure-all` writes it; or of a LENGTH in bytes with a cut that
 has no point and skips each region of the file. Where `bound` is unclear at a point, the point gets a line, or what its
 value is made of where that has fewer bits; where the budget is too small, it is raised. So it goes on until `bound`
 answers, in at most so many rounds. Where the cut of the secrets comes to no answer with 1,024 walks, or to more bits
-than were measured, it begins again without a point, and at last with as many walks as are allowed.
+than were measured, it begins again without a point. Where neither comes to an answer, both go on with eight times as
+many walks, until there are as many as are allowed.
 
+  --any-public         of any public input of the length of PUBLIC, not of PUBLIC alone; `measure` takes PUBLIC
   --rounds N           at most so many calls of `bound` from a beginning; 100 without it
   --output FILE        the file of the cut; `bound.cut` without it
-  --regions, --turns, --rules, --paths  as of `bound`
+  --rules N            the table of mask rules; 3 without it
+  --regions, --turns, --paths  as of `bound`
   --flowcheck COMMAND  the program; without it FLOWCHECK, else the one built or installed with this, else the model
 
-Prints the rounds, then in words what is bounded, or why not and what to change. Where no region is listed and no path
-stops, that is said of every secret; else of every secret whose run ends and breaks no region. On a terminal it says
+Prints the rounds, then in words what is bounded, or why not and what to change. Where as many walks as are allowed are
+too few, it names the decision at which most states part, and what keeps them apart. Where no region is listed and no
+path stops, it speaks of all secrets; else of every secret whose run ends and breaks no region. On a terminal it says
 meanwhile which call of `bound` it waits for. The status is 0 where it is bounded."""
 import os
 import sys
+import textwrap
 
 HERE = os.path.dirname(os.path.abspath(__file__))
 sys.path[:0] = [os.path.join(HERE, "explain"), os.path.join(HERE, "model")]
 
 from answering import Program, command_words
 from bound_words import bounded_lines, unclear_lines
-from bounding import Bounding, NoBound, found
+from bounding import SEARCH_RULES, Bounding, NoBound, found
+from parting import Parting
 from run_facts import Inputs
 from run_words import parser_of
 from source_lines import Places
 from tool import finish, program_of, told
 
-MOST_LENGTH = 65_536
+MOST_LENGTH, WIDTH = 65_536, 115
 OPTIONS = ("regions", "turns", "rules", "paths")
 
 
@@ -41,7 +47,8 @@ def arguments():
     parser.add_argument("public", metavar="PUBLIC")
     parser.add_argument("secrets", metavar="SECRET", nargs="+")
     for name in OPTIONS:
-        parser.add_argument(f"--{name}")
+        parser.add_argument(f"--{name}", default=SEARCH_RULES if name == "rules" else None)
+    parser.add_argument("--any-public", action="store_true")
     parser.add_argument("--rounds", type=int, default=100)
     parser.add_argument("--output", default="bound.cut")
     return parser.parse_intermixed_args()
@@ -62,10 +69,21 @@ def find(bounding, words, tell):
     return *found(bounding, beginnings, words.rounds, bits, tell), bits
 
 
-def command(words, answer, options):
+def command(words, answer, bounding):
     """The words that ask again."""
     named = words.program, words.public, words.output, str(answer.budget)
-    return [*command_words(), "bound", *named, *options, "--list"]
+    return [*command_words(), "bound", *named, *bounding.inputs.options, *bounding.flags(), "--list"]
+
+
+def parting_of(bounding, answer):
+    """Where most states part, if there are too many paths."""
+    return Parting(bounding.task(answer.cut, answer.budget)) if answer.is_waiting() else None
+
+
+def say(lines):
+    """Prints lines; sentences are broken where they are long."""
+    for line in lines:
+        print(line if line.startswith(" ") else textwrap.fill(line, WIDTH, break_long_words=False, break_on_hyphens=False))
 
 
 def main():
@@ -74,17 +92,18 @@ def main():
     options = [word for name in OPTIONS if getattr(words, name) for word in (f"--{name}", getattr(words, name))]
     try:
         program, inputs = program_of(words.program), Inputs(words.program, words.public, None, options)
-        bounding = Bounding(Program(words.flowcheck), inputs, program)
+        bounding = Bounding(Program(words.flowcheck), inputs, program, words.any_public)
         answer, walk, bits = find(bounding, words, lambda text: print(text, flush=True))
     except NoBound as fault:
         return told(str(fault), 1)
     with open(words.output, "w", encoding="utf-8") as out:
         out.write(answer.cut.text())
-    again = command(words, answer, options)
+    again = command(words, answer, bounding)
     if answer.is_bounded:
-        print("\n".join(bounded_lines(answer, words.public, bounding.turns, bits, again)))
+        say(bounded_lines(answer, words.public, bounding.turns, bits, again))
         return 0
-    print("\n".join(unclear_lines(answer, walk, program, Places(words.program, program), again)))
+    parting = parting_of(bounding, answer)
+    say(unclear_lines(answer, walk, program, Places(words.program, program), again, parting))
     return 1
 
 

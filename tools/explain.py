@@ -3,13 +3,14 @@
 Call: explain.py PROG PUBLIC SECRET... [--turns N] [--regions FILE] [--rules N] [--against CUT]
       explain.py PROG PUBLIC --check CUT BUDGET SECRET [--turns N] [--regions FILE]
       explain.py PROG PUBLIC --taint CUT BUDGET SECRET [--turns N] [--regions FILE] [--rules N]
-      explain.py PROG PUBLIC --bound CUT BUDGET [SECRET] [--turns N] [--regions FILE] [--rules N] [--paths N]
+      explain.py PROG PUBLIC --bound CUT BUDGET [SECRET] [--any-public] [--turns N] [--regions FILE] [--rules N]
+                 [--paths N]
 
 The first form measures a run, and says why its number is what it is and what would lower it; or it measures several
 together, with one cut, and says what crosses at it in each. The second says of a secret that `check` rejects where and
 why, and the third of one that is unclear to `taint`, with the lines of a cut that would clear it. The fourth has all
-outputs that `bound` lists, with the choices that lead to them where there are few, and beside them what is measured of
-a secret that is named. Each writes one HTML file, which needs nothing beside it, or with --text a text for a terminal.
+outputs that `bound` lists, with the states at which bits are chosen where there are few, and beside them what is measured
+of a secret that is named; with --any-public it is of any public input of the length of PUBLIC. Each writes one HTML file, which needs nothing beside it, or with --text a text for a terminal.
 
   --against CUT        of one secret: this measurement beside an earlier one, of which there is a cut or a page
   --output FILE        the file of the page; without it `explain.html`, and `-` is standard output
@@ -55,6 +56,7 @@ def arguments():
     parser.add_argument("--bound", nargs="+", metavar=("CUT", "BUDGET"))
     for name in ("--turns", "--regions", "--rules", "--paths"):
         parser.add_argument(name)
+    parser.add_argument("--any-public", action="store_true")
     parser.add_argument("--against", metavar="CUT")
     parser.add_argument("--output", default="explain.html")
     parser.add_argument("--text", action="store_true")
@@ -66,8 +68,9 @@ def arguments():
         parser.error("--bound takes CUT BUDGET, and perhaps SECRET")
     if words.against and len(words.secret) != 1:
         parser.error("--against is an option of the measurement of one secret")
-    if words.paths and not words.bound:
-        parser.error("--paths is an option of --bound")
+    for name in ("paths", "any_public"):
+        if getattr(words, name) and not words.bound:
+            parser.error(f"--{name.replace('_', '-')} is an option of --bound")
     if words.check and words.rules:
         parser.error("--rules is no option of a check")
     return words

@@ -5,7 +5,10 @@ GNU parallel, on this machine or over ssh, or to Slurm. Puts a report, and besid
 
 SECRETS is a folder whose files are the secrets, or a file with a secret a line in hexadecimal; else --digits or
 --random say which they are. Status 0: all secrets are accepted; 1: all are judged, and some rejected; 2: the words are
-no command line; 3: the sweep is refused; 4: some secrets are not judged; 5: the answers contradict the bound."""
+no command line; 3: the sweep is refused; 4: some secrets are not judged; 5: the answers contradict the bound.
+
+With --bound it asks `bound` of many public inputs, each in a call of its own: `sweep.py --bound PROG CUT BUDGET PUBLICS`,
+of which `sweep.py --bound --help` says more."""
 import argparse
 import fcntl
 import json
@@ -19,7 +22,9 @@ HERE = os.path.dirname(os.path.abspath(__file__))
 sys.path[:0] = [os.path.join(HERE, name) for name in ("sweep", "explain", "model")]
 
 from bars import picture
-from batch import Check, put, read
+from batch import caller, put, read
+from bounds_merge import MergedBounds, write_bounds
+from bounds_merge import report_of as bounds_report
 from built_program import program_words
 from cuts import read_cut, read_regions
 from elf_symbols import ProgramFile
@@ -31,6 +36,15 @@ from refusals import cut_fault, program_fault, regions_fault
 from secret_lists import Refused, lists_of
 
 
+BOUND = """Asks `bound` of many public inputs with one program, cut, regions, budget, limits of turns and of walks, each in a
+call of its own. The calls are handed to GNU parallel, on this machine or over ssh, or to Slurm. Puts a report, whose last
+line says where the most outputs are, and beside it a table.
+
+PUBLICS is a folder whose files are the public inputs, or a file with one a line in hexadecimal; else --lengths, --digits
+or --random say which they are. Status 0: all are bounded; 1: all are answered, and some are unclear; 2: the words are no
+command line; 3: the sweep is refused; 4: some are not answered."""
+
+
 def number(lowest, highest):
     def read_number(word):
         if not (word.isascii() and word.isdigit() and lowest <= int(word) <= highest):
@@ -40,16 +54,56 @@ def number(lowest, highest):
     return read_number
 
 
+def lengths(word):
+    """A range of lengths, as 0-64."""
+    first, _, last = word.partition("-")
+    pair = number(0, 1_048_576)(first), number(0, 1_048_576)(last)
+    if pair[0] > pair[1]:
+        raise argparse.ArgumentTypeError("the first length is above the last")
+    return pair
+
+
 def words():
-    parser = argparse.ArgumentParser(description=__doc__, formatter_class=argparse.RawDescriptionHelpFormatter)
-    for name, text in [("prog", "the guest"), ("public", "the public input"), ("cut", "the cut")]:
+    """The words of the command line, of a sweep of `check` or of `bound`."""
+    return bound_words() if "--bound" in sys.argv[1:] else check_words()
+
+
+def bound_words():
+    """The words of a sweep of `bound`."""
+    parser = argparse.ArgumentParser(description=BOUND, formatter_class=argparse.RawDescriptionHelpFormatter)
+    parser.add_argument("--bound", action="store_true", help="asks `bound` of many public inputs")
+    for name, text in [("prog", "the guest"), ("cut", "the cut")]:
         parser.add_argument(name, metavar=name.upper(), help=text)
-    parser.add_argument("budget", metavar="BUDGET", type=number(0, 1_048_576), help="how many bits may cross in a run")
-    parser.add_argument("secrets", metavar="SECRETS", nargs="?", help="a folder, or a file of hexadecimal lines")
+    parser.add_argument("budget", metavar="BUDGET", type=number(0, 1_048_576), help="how many bits may cross on a path")
+    parser.add_argument("secrets", metavar="PUBLICS", nargs="?", help="a folder, or a file of hexadecimal lines")
+    parser.add_argument("--lengths", metavar="A-B", type=lengths, help="one of each length, with --any-public")
+    parser.add_argument("--any-public", action="store_true", help="of any public input of each length")
+    parser.add_argument("--rules", metavar="N", type=number(1, 3), default=1, help="the table of mask rules (1)")
+    parser.add_argument("--paths", metavar="N", type=number(1, 1_048_576), default=65_536,
+                        help="how many walks may be made (65536)")
+    add_lists(parser, "public input")
+    add_shared(parser)
+    parser.add_argument("--calls", metavar="N", type=number(1, 1024), help="calls of bound in a batch (1 to 16)")
+    args = parser.parse_intermixed_args()
+    if sum(one is not None for one in (args.secrets, args.digits, args.random, args.lengths)) != 1:
+        parser.error("one of PUBLICS, --lengths, --digits and --random says which the public inputs are")
+    if (args.random is None) != (args.size is None):
+        parser.error("--random and --size go together")
+    if args.lengths and not args.any_public:
+        parser.error("--lengths goes with --any-public")
+    return args
+
+
+def add_lists(parser, name):
+    """The options that make a list of secrets or public inputs."""
     parser.add_argument("--digits", metavar="N", type=number(1, 9), help="all strings of N decimal digits")
-    parser.add_argument("--random", metavar="N", type=number(1, 10**9), help="N random secrets")
-    parser.add_argument("--size", metavar="S", type=number(0, 65_536), help="bytes of a random secret")
-    parser.add_argument("--seed", metavar="K", type=number(0, 2**64), default=1, help="seed of the random secrets (1)")
+    parser.add_argument("--random", metavar="N", type=number(1, 10**9), help=f"N random {name}s")
+    parser.add_argument("--size", metavar="S", type=number(0, 65_536), help=f"bytes of a random {name}")
+    parser.add_argument("--seed", metavar="K", type=number(0, 2**64), default=1, help=f"seed of the random {name}s (1)")
+
+
+def add_shared(parser):
+    """The options of both kinds of sweeps."""
     parser.add_argument("--regions", metavar="F", help="the region file")
     parser.add_argument("--turns", metavar="N", type=number(1, 20_000_000), default=1_000_000,
                         help="the limit of turns (1000000)")
@@ -63,6 +117,17 @@ def words():
     parser.add_argument("--results", metavar="DIR", default="sweep-results",
                         help="where the results go (sweep-results)")
     parser.add_argument("--resume", action="store_true", help="go on with the sweep whose results are there")
+
+
+def check_words():
+    """The words of a sweep of `check`."""
+    parser = argparse.ArgumentParser(description=__doc__, formatter_class=argparse.RawDescriptionHelpFormatter)
+    for name, text in [("prog", "the guest"), ("public", "the public input"), ("cut", "the cut")]:
+        parser.add_argument(name, metavar=name.upper(), help=text)
+    parser.add_argument("budget", metavar="BUDGET", type=number(0, 1_048_576), help="how many bits may cross in a run")
+    parser.add_argument("secrets", metavar="SECRETS", nargs="?", help="a folder, or a file of hexadecimal lines")
+    add_lists(parser, "secret")
+    add_shared(parser)
     parser.add_argument("--calls", metavar="N", type=number(1, 1024), help="calls of check in a batch (4 to 16)")
     args = parser.parse_args()
     if (args.secrets is not None) + (args.digits is not None) + (args.random is not None) != 1:
@@ -83,9 +148,19 @@ def program_file(args):
 
 
 def asked(args):
-    paths = {"flowcheck": program_file(args), "program": args.prog, "public": args.public, "cut": args.cut,
-             "regions": args.regions}
-    return Sweep(paths, args.budget, args.turns, lists_of(args), args.calls, earlier(args))
+    """The sweep that the words ask for."""
+    paths = {"flowcheck": program_file(args), "program": args.prog, "cut": args.cut, "regions": args.regions}
+    bound = None
+    if is_bound(args):
+        bound = {"command": "bound", "rules": args.rules, "paths": args.paths, "any_public": args.any_public}
+    else:
+        paths["public"] = args.public
+    return Sweep(paths, args.budget, args.turns, lists_of(args), args.calls, earlier(args), bound)
+
+
+def is_bound(args):
+    """Whether `bound` is asked."""
+    return hasattr(args, "any_public")
 
 
 def earlier(args):
@@ -111,15 +186,16 @@ def locked(folder):
 
 
 def try_first(folder, sweep):
-    """One call on the first secret, not counted: what check refuses for all is told before the engine starts."""
+    """One call on the first secret or public input, not counted: what is refused for all is told before the engine
+    starts."""
     scratch = tempfile.mkdtemp(prefix="sweep-")
     try:
-        check = Check(os.path.join(folder, "files"), scratch, sweep.manifest["under"])
+        check = caller(os.path.join(folder, "files"), scratch, sweep.manifest["under"])
         answer = check.call([next(iter(sweep.secrets))])
     finally:
         shutil.rmtree(scratch, ignore_errors=True)
     if "refused" in answer.get("died", ""):
-        raise Refused(f"check {answer['died']}")
+        raise Refused(f"{sweep.manifest['under'].get('command', 'check')} {answer['died']}")
 
 
 def notes_of(sweep):
@@ -128,6 +204,19 @@ def notes_of(sweep):
     if program_fault(program) or cut_fault(cut) or regions and regions_fault(regions):
         return []
     return of_cut(ProgramFile(program), read_cut(cut), read_regions(regions) if regions else [])
+
+
+def bounds_of(folder, sweep):
+    """What was answered of each public input; the report and the status."""
+    merged = MergedBounds(folder, sweep).take_all()
+    write_bounds(folder, merged)
+    return merged, bounds_report(merged), int(any(merged.reasons))
+
+
+def verdicts_of(folder, sweep):
+    """What was judged of the secrets; the report and the status."""
+    merged = merged_of(folder, sweep)
+    return merged, report_of(merged), int(merged.counts.get("accepted", 0) < merged.judged())
 
 
 def merged_of(folder, sweep):
@@ -150,13 +239,12 @@ def sweep_all(args):
     if missing:
         try_first(folder, sweep)
         engine.run(folder, sweep, missing, lock)
-    merged = merged_of(folder, sweep)
-    sys.stdout.write(report_of(merged))
-    print(f"{time.perf_counter() - begin:.2f} s; calls of check {merged.seconds:.2f} s, {merged.processor:.2f} s of a"
+    merged, report, status = (bounds_of if is_bound(args) else verdicts_of)(folder, sweep)
+    sys.stdout.write(report)
+    name = "bound" if is_bound(args) else "check"
+    print(f"{time.perf_counter() - begin:.2f} s; calls of {name} {merged.seconds:.2f} s, {merged.processor:.2f} s of a"
           " processor", file=sys.stderr)
-    if merged.unjudged:
-        return 4
-    return int(merged.counts.get("accepted", 0) < merged.judged())
+    return 4 if merged.unjudged else status
 
 
 def main():

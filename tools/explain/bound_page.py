@@ -1,72 +1,70 @@
 """The page of `bound`: all outputs that a program can have, of every secret whose run ends and breaks no region, with
 the choices that lead to them; or why that is unclear, and what to change."""
 import shlex
-from collections import Counter
 from os.path import basename as base
 
 from answering import command_words
-from bound_words import ADVICE, FREE_WORDS, advice_at, claim, numbers_words, reason_kind
+from bound_words import ADVICE, FREE_WORDS, advice_at, claim, numbers_words, parting_lines, reason_kind
 from bounding import Bounding, choices_by_point
-from bounds import Task
 from cuts import read_cut
-from decision_tree import MOST_LINES, MOST_PATHS, DecisionTree, TooMany, address_words, walks_of
+from decision_tree import MOST_STATES, MOST_WAYS, DecisionGraph, GraphLines, Leaf, TooMany, address_words
 from document import Commands, Section, Table, Words
 from faults_of_text import cut_text_fault
 from guest import shown
 from instruction_text import instruction_text, slot_words
+from parting import Parting
 from pieces_of_code import Marks, listing_blocks, source_blocks
 from rejection_page import KINDS, lines_table, point_text
 from run_facts import Inputs, read
 
 MOST_OUTPUTS, TREE = 50, "The decisions"
 NOT_SAID = (
-    "It is said for this public input, and for secrets of this length. It is not said of time, and not of how likely a "
-    "secret is. A listed output need not be that of a secret."
+    "It is said for {public}, and for secrets of this length. It is not said of time, and not of how likely a secret is. A "
+    "listed output need not be that of a secret."
+)
+MANY = (
+    "The states at which a bit is chosen are not shown: there are more than {states}, or more than {ways} ways between "
+    "them, or a path comes to the limit of turns."
 )
 
 
 class Bounded:
     """What `bound` answers about a cut, beside what is measured of a secret where one is named."""
 
-    def __init__(self, asked, inputs, named, program):
+    def __init__(self, asked, inputs, named, program, is_any_public=False):
         self.inputs, self.cut_name, self.budget, self.program = inputs, named[0], int(named[1]), program
         fault = cut_text_fault(read(self.cut_name))
         if fault:
             raise SystemExit("\n".join(fault.lines(self.cut_name)))
         self.secret, self.measured = (named + [None])[2], None
-        self.bounding = Bounding(asked, inputs, program)
+        self.bounding = Bounding(asked, inputs, program, is_any_public)
         self.cut = read_cut(read(self.cut_name))
         self.answer = self.bounding.answer(self.cut, self.budget)
         if self.secret:
             self.measured = self.bounding.measured([self.secret]).bits
-        self.walks, self.walk = None, None
+        self.graph, self.walk, self.parting = None, None, None
         if self.answer.is_bounded:
-            self.walks = self.all_walks()
-        else:
-            self.walk = self.bounding.walk(self.answer)
+            self.graph = self.whole_graph()
+            return
+        self.walk = self.bounding.walk(self.answer)
+        if self.answer.is_waiting():
+            self.parting = Parting(self.bounding.task(self.cut, self.budget))
 
-    def all_walks(self):
-        """The walks of all paths by the model; None where there are many, or the model says another thing."""
-        paths = self.answer.numbers["paths"]
-        if paths is None or paths > MOST_PATHS:
-            return None
-        limits = self.budget, self.bounding.turns, self.bounding.paths
-        named = self.program.image, self.bounding.public, self.bounding.regions, self.cut, self.bounding.table
+    def whole_graph(self):
+        """The graph of the states by the model; None where it is large, or the model says another thing."""
         try:
-            walks = walks_of(Task(*named, *limits))
+            graph = DecisionGraph(self.bounding.task(self.cut, self.budget))
         except TooMany:
             return None
-        return walks if len(walks) == paths else None
+        told = self.answer.numbers["paths"], self.answer.numbers["stopped"]
+        is_same = all(one is None or one == other for one, other in zip(told, graph.paths()))
+        return graph if is_same else None
 
     def choices(self):
-        """How many choices were made at each point: in all walks the most, or in the walk that is unclear."""
+        """How many choices were made at each point: at most on one path, or in the walk that is unclear."""
         if self.walk:
             return dict(choices_by_point(self.walk))
-        most = {}
-        for walk in self.walks or []:
-            for point, count in Counter(place[0] for place in walk.places).items():
-                most[point] = max(most.get(point, 0), count)
-        return most
+        return self.graph.choices() if self.graph else {}
 
 
 def claim_section(bounded):
@@ -75,7 +73,8 @@ def claim_section(bounded):
     if answer.is_bounded:
         bits = answer.numbers["bits"]
         blocks = [Words(claim(answer, turns), "number", bits), Words(numbers_words(answer, bounded.measured))]
-        return Section("", *blocks, Words(answer.line, "dim"), Words(NOT_SAID, "dim"))
+        public = "any public input of this length" if bounded.bounding.is_any_public else "this public input"
+        return Section("", *blocks, Words(answer.line, "dim"), Words(NOT_SAID.format(public=public), "dim"))
     kind, length = reason_kind(answer.reason), answer.cut.secret_length
     plural = f"{length:,} byte{'' if length == 1 else 's'}"
     blocks = [Words(f"Nothing is known of all secrets of {plural}: {answer.line}", "number")]
@@ -99,20 +98,27 @@ def outputs_section(bounded):
 
 
 def tree_section(bounded, places):
-    """The decisions as a tree, where it is small."""
-    if not bounded.walks or len(bounded.walks) == 1:
+    """The decisions as a graph of states, where it is small; else how many paths there are."""
+    if not bounded.answer.is_bounded or bounded.graph and isinstance(bounded.graph.first, Leaf):
         return None
-    lines = DecisionTree(bounded.walks, bounded.answer.patterns, bounded.program, places).lines()
-    told = "By the model in tools/model: each bit that crosses, as far as it can differ, and where its ways lead."
-    key = Words(told, "dim")
-    if len(lines) > MOST_LINES:
-        return Section(TREE, Words(f"The tree has {len(lines):,} lines, too many to be shown.", "dim"))
-    return Section(TREE, key, Commands(lines, "tree"))
+    if not bounded.graph:
+        many = MANY.format(states=MOST_STATES, ways=MOST_WAYS)
+        return Section(TREE, Words(numbers_words(bounded.answer, None)), Words(many, "dim"))
+    lines = GraphLines(bounded.graph, bounded.answer.patterns, bounded.program, places).lines()
+    told = (
+        "By the model in tools/model: each state at which a bit is chosen, with the ways on. Paths that come to the same "
+        "state are the same from there on."
+    )
+    return Section(TREE, Words(told, "dim"), Commands(lines, "tree"))
 
 
 def where_section(bounded, program, places):
     """Where it is unclear, and what would have to cross there."""
     walk = bounded.walk
+    if bounded.parting and bounded.parting.point:
+        lines = parting_lines(bounded.parting, program, places)
+        return Section("Where states part", Words(lines[0]), Commands(lines[1:2]), Words(lines[2]), Commands(lines[3:-1]),
+                       Words(lines[-1]))
     if walk is None or reason_kind(bounded.answer.reason) not in ("left", "base", "secret-code"):
         return None
     address = walk.begin
@@ -137,7 +143,7 @@ def choices_section(bounded, program, places):
     for point in points:
         place = places.at(point[1])
         text = f"{shown(point[1])} {instruction_text(program.instruction(point[1]), point[1])}"
-        number = str(counted.get(point, 0)) if walk or bounded.walks else "-"
+        number = str(counted.get(point, 0)) if walk or bounded.graph else "-"
         row = [number, address_words(point), place.text(), text, slot_words(point[2])]
         rows.append([*row, places.line_of(place).strip() or "-"])
     blocks = [Table(["Choices", "Point", "Place", "Instruction", "What passes", "Source"], rows, None, "points")]
@@ -145,7 +151,7 @@ def choices_section(bounded, program, places):
         blocks.append(Words(advice_at(max(counted, key=counted.get))))
     of_paths = "on the path that is unclear" if walk else "on one path, at most"
     told = f"Choices: how many bits were chosen at the point {of_paths}."
-    told = told if walk or bounded.walks else "There are many paths, so that their choices are not counted."
+    told = told if walk or bounded.graph else "There are many states, so that the choices are not counted."
     return Section("Where bits cross", Words(told, "dim"), *blocks)
 
 
@@ -165,11 +171,11 @@ def bound_page(bounded, program, places):
     sections.append(Section("The source", Words(key, "dim"), *source_blocks(places, marks)))
     sections.append(Section("The listing", *listing_blocks(program, places, marks)))
     again = [*command_words(), "bound", inputs.program, inputs.public, bounded.cut_name, str(bounded.budget)]
-    lines = [shlex.join([*again, *inputs.options, "--list"])]
+    lines = [shlex.join([*again, *inputs.options, *bounded.bounding.flags(), "--list"])]
     sections.append(Section("Ask again", Commands(lines)))
     return f"{word} of {name}", [section for section in sections if section]
 
 
 def bounded_of(asked, words, options, program):
     """What the words of the command line ask about."""
-    return Bounded(asked, Inputs(words.program, words.public, None, options), words.bound, program)
+    return Bounded(asked, Inputs(words.program, words.public, None, options), words.bound, program, words.any_public)

@@ -16,10 +16,15 @@ VALUES = (
     "Each bit that crosses here is a choice. Mask the value where fewer bits do. At a written byte, slot ou, bits are "
     "free and no choice, so let them cross there where nothing is decided by them."
 )
+STATES = (
+    "Let these be the same again: clear or overwrite what is no longer wanted, such as a counter that is kept, a buffer "
+    "that was filled, or a value that crossed and is stored; or decide before you store."
+)
 OUTPUTS = "Give the result of the region fewer bits, as by a mask behind the call."
 ADVICE = {
     "left": "The walk decides by this slot, or shows it, and some of its bits may differ and have not crossed.",
-    "paths": "There are more paths than --paths says, and as many walks are not enough. It may be up to 1048576.",
+    "paths": "As many walks as --paths says are not enough. It may be up to 1048576. A walk ends where it comes to a state "
+    "that is known, so many walks are wanted where few paths come to the same state.",
     "outputs": "The different outputs have too many bytes together. Write less, or let the bits cross where they are "
     "written, where bits are free.",
     "budget": "More bits cross on this path than any budget allows.",
@@ -35,9 +40,16 @@ def reason_kind(reason):
     return "base" if words[2:3] == ["base"] else words[0]
 
 
-def secret_words(length):
+def secret_words(length, kind=""):
     """The secret by its length."""
-    return "the secret of no byte is" if not length else f"the {length:,} bytes are" if length > 1 else "the byte is"
+    if not length:
+        return "the secret of no byte is"
+    return f"the {length:,} {kind}bytes are" if length > 1 else f"the {kind}byte is"
+
+
+def bytes_words(length):
+    """A number of bytes."""
+    return f"{length:,} byte{'' if length == 1 else 's'}"
 
 
 def count_words(numbers):
@@ -49,38 +61,65 @@ def count_words(numbers):
 
 
 def claim(answer, turns):
-    """What a bounded answer says of secrets."""
+    """What a bounded answer says of secrets, and of public inputs where these may be any."""
     numbers, length = answer.numbers, answer.cut.secret_length
+    public = numbers.get("public")
     if numbers["outputs"] == 0:
-        return f"No run of a secret exits within {turns:,} turns and breaks no region: no path exits."
-    if answer.is_of_all():
+        return f"No run exits within {turns:,} turns and breaks no region: no path exits."
+    if answer.is_of_all() and public is None:
         return f"Whatever {secret_words(length)}, the output is {count_words(numbers)}."
-    plural = f"of {length:,} byte{'' if length == 1 else 's'}"
+    if answer.is_of_all():
+        told = f"Whatever is typed ({bytes_words(public)}) and whatever {secret_words(length, 'secret ')}"
+        return f"{told}, the output is {count_words(numbers)}; {runs_words(numbers)}."
+    typed = "" if public is None else f"public input of {bytes_words(public)} and every "
     return (
-        f"Of every secret {plural} whose run ends within {turns:,} turns and breaks no region, the output is "
-        f"{count_words(numbers)}."
+        f"Of every {typed}secret of {bytes_words(length)} whose run ends within {turns:,} turns and breaks no region, the "
+        f"output is {count_words(numbers)}."
     )
+
+
+def rounded_up(count, runs, places):
+    """The bits that tell so many outputs apart, times a number of runs, rounded up to so many decimal places."""
+    scale = 10**places
+    return (count ** (runs * scale) - 1).bit_length() / scale
+
+
+def runs_words(numbers, runs=3):
+    """What three runs on one secret give away at most."""
+    count = numbers["outputs"]
+    if count == 1:
+        return "no run gives anything away"
+    bits = runs * numbers["bits"] if count is None else rounded_up(count, runs, 1)
+    return f"three runs give away at most {bits:,.{0 if bits == int(bits) else 1}f} bits"
 
 
 def numbers_words(answer, bits):
     """The numbers of a bounded answer, beside what was measured."""
     numbers = answer.numbers
-    told = f"That is {bits_text(numbers['bits'])}; {paths_words(numbers)}"
+    told = f"Of {number_words(numbers['paths'], 'path')}, {number_words(numbers['outputs'], 'output')}: "
+    told += f"{size_words(numbers)}; {stops_words(numbers)}"
     return told + (f"; measured of the secrets: {bits_text(bits)}." if bits is not None else ".")
 
 
-def paths_words(numbers):
-    """How many paths there are, and how many stop; a number of 2^64 or more is not told."""
-    paths, stopped = numbers["paths"], numbers["stopped"]
-    if paths == 1:
-        return "one path, which stops" if stopped else "one path"
-    ended = f"of which {number_words(stopped)} stop{'s' * (stopped == 1)}" if stopped != 0 else "none of which stops"
-    return f"{number_words(paths)} paths, {ended}"
+def size_words(numbers):
+    """How many bits tell the outputs apart: with two places, rounded up, and as the program prints it."""
+    count, bits = numbers["outputs"], numbers["bits"]
+    if count is None or count < 2 or rounded_up(count, 1, 2) == bits:
+        return bits_text(bits)
+    return f"{rounded_up(count, 1, 2):.2f} bits, which the program rounds up to {bits}"
 
 
-def number_words(number):
-    """A number, where it is told."""
-    return "2^64 or more" if number is None else f"{number:,}"
+def stops_words(numbers):
+    """How many paths stop."""
+    stopped = numbers["stopped"]
+    if stopped == 0:
+        return "none stops"
+    return "one path stops" if stopped == 1 else f"{number_words(stopped, 'path')} stop"
+
+
+def number_words(number, word):
+    """A number with its word; a dash where there are 2^64 or more."""
+    return f"- {word}s (2^64 or more)" if number is None else f"{number:,} {word}{'' if number == 1 else 's'}"
 
 
 def output_lines(patterns, most):
@@ -95,8 +134,8 @@ def bounded_lines(answer, public, turns, bits, again):
     lines += output_lines(answer.patterns, MOST_SHOWN)
     lines += [FREE_WORDS] if any(pattern.free for pattern in answer.patterns) else []
     lines += [f"First path that stops: {answer.stopped_line}"] if answer.stopped_line else []
-    lines += [f"It is said for the public input {public} and this length, and not of time. To ask again:"]
-    return lines + ["    " + shlex.join(again)]
+    said = f"the public input {public} and this length" if answer.numbers.get("public") is None else "these lengths"
+    return lines + [f"It is said for {said}, and not of time. To ask again:", "    " + shlex.join(again)]
 
 
 def point_words(point, program, places):
@@ -116,7 +155,16 @@ def advice_at(point):
     return VALUES if slot == "rs" or slot[0] not in "xr" else OUTPUTS
 
 
-def unclear_lines(answer, walk, program, places, again):
+def parting_lines(parting, program, places):
+    """At which decision most states part, what differs between them there, and what to change."""
+    if parting is None or not parting.point:
+        return []
+    lines = [f"Most states part at this decision; of some walks {parting.count:,} different ones were seen there:"]
+    lines += ["    " + point_words(parting.point, program, places), "What keeps them apart there:"]
+    return lines + [f"    {line}" for line in parting.differences.lines(program, places)] + [STATES]
+
+
+def unclear_lines(answer, walk, program, places, again, parting=None):
     """Why it is unclear, and what to change, as lines."""
     words, length = answer.reason.split(), answer.cut.secret_length
     kind, plural = reason_kind(answer.reason), f"{length:,} byte{'' if length == 1 else 's'}"
@@ -124,6 +172,7 @@ def unclear_lines(answer, walk, program, places, again):
     if kind == "left":
         point = int(words[1]), int(words[2], 16), words[3]
         lines += ["The rounds are over. It stands at", "    " + point_words(point, program, places)]
+    lines += parting_lines(parting, program, places)
     counted = choices_by_point(walk)
     if counted and kind in ("paths", "outputs", "budget", "left"):
         whole = len(walk.choices)

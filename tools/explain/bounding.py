@@ -12,6 +12,7 @@ from verdicts import MOST_BUDGET, USUAL_TURNS
 from walk_tracing import traced
 
 USUAL_PATHS, FEW_PATHS = 1 << 16, 1 << 10
+SEARCH_RULES = "3"
 LINE = re.compile(r"output \d+ free (\d+) bytes (\S+) status (\d+)(?: mask (\S+) (\S+))?")
 
 
@@ -84,11 +85,12 @@ class Answer:
 
 
 class Bounding:
-    """The asking about one program on its public input. `options` are words of `bound`; `inputs` names the files."""
+    """The asking about one program on its public input, or on any of its length. `options` are words of `bound` with a
+    value each; `inputs` names the files."""
 
-    def __init__(self, asked, inputs, program):
+    def __init__(self, asked, inputs, program, is_any_public=False):
         self.asked, self.inputs, self.program, self.regions = asked, inputs, program, inputs.regions()
-        self.public = read(inputs.public)
+        self.public, self.is_any_public = read(inputs.public), is_any_public
         numbers = (("--rules", 1), ("--turns", USUAL_TURNS), ("--paths", USUAL_PATHS))
         words = [inputs.option(name) or str(usual) for name, usual in numbers]
         if not all(word.isdigit() for word in words):
@@ -98,7 +100,7 @@ class Bounding:
 
     def answer(self, cut, budget, paths=None):
         """What `bound` answers about a cut, with as many walks as are allowed or fewer."""
-        options = [*self.inputs.without("--paths"), "--paths", str(paths or self.paths), "--list"]
+        options = [*self.inputs.without("--paths"), "--paths", str(paths or self.paths), *self.flags(), "--list"]
         with tempfile.NamedTemporaryFile("w", suffix=".cut") as file:
             file.write(cut.text())
             file.flush()
@@ -119,11 +121,18 @@ class Bounding:
         empty = self.empty(measured.secret_length)
         return made + [("without a point, past each region", empty)] * (empty.skip != measured.skip)
 
+    def flags(self):
+        """The words without a value."""
+        return ["--any-public"] if self.is_any_public else []
+
+    def task(self, cut, budget):
+        """What is walked, for the model."""
+        limits = budget, self.turns, self.paths, self.is_any_public
+        return Task(self.program.image, self.public, self.regions, cut, self.table, *limits)
+
     def walk(self, answer):
         """The walk of the path that is unclear, by the model, with origins."""
-        limits = answer.budget, self.turns, self.paths
-        task = Task(self.program.image, self.public, self.regions, answer.cut, self.table, *limits)
-        return traced(task, answer.line)
+        return traced(self.task(answer.cut, answer.budget), answer.line)
 
     def measured(self, secrets):
         """The cut of some secrets."""
@@ -174,16 +183,18 @@ class Search:
         return Cut(cut.secret_length, cut.bits, cut.skip, dict(cut.points), cut.version)
 
     def with_least(self, answer, least):
-        """The answer with the least budget from one on; the budget becomes the number of the cut."""
-        answer.cut.bits = answer.budget
-        for _ in range(self.rounds):
-            if least >= answer.budget:
-                break
-            lower = self.bounding.answer(self.copied(answer.cut), least, self.paths)
+        """The answer with the least budget from one on, which becomes the number of the cut. What is bounded with a
+        budget is so with each greater one."""
+        tried = least
+        while least < answer.budget:
+            lower = self.bounding.answer(self.copied(answer.cut), tried, self.paths)
             if lower.is_bounded:
-                lower.cut.bits = least
-                return lower
-            least = int(lower.reason.split()[3])
+                answer = lower
+            else:
+                words = lower.reason.split()
+                least = max(tried + 1, int(words[3]) if words[0] == "budget" else 0)
+            tried = (least + answer.budget) // 2
+        answer.cut.bits = answer.budget
         return answer
 
     @staticmethod
@@ -201,16 +212,26 @@ class Search:
         return lines
 
 
+def limits_of(paths):
+    """How many walks are allowed one after the other: few, eight times as many, and so on up to all."""
+    limits = [min(FEW_PATHS, paths)]
+    while limits[-1] < paths:
+        limits.append(min(8 * limits[-1], paths))
+    return limits
+
+
 def found(bounding, beginnings, rounds, measured, tell):
-    """The best answer with its walk. Each beginning is tried with few walks, and then with as many as are allowed; an
-    answer is taken at once where it has no more bits than were measured, else the one with the fewest."""
+    """The best answer with its walk. Each beginning is tried with few walks, and goes on with eight times as many until
+    all are made that are allowed; an answer is taken at once where it has no more bits than were measured, else the one
+    with the fewest."""
     best, last = None, {}
-    for paths in sorted({min(FEW_PATHS, bounding.paths), bounding.paths}):
+    for paths in limits_of(bounding.paths):
         for name, cut in beginnings:
             begun = last[name][0].cut if name in last else cut
             if name in last and not last[name][0].is_waiting():
                 continue
-            tell(f"Begins {name}, with at most {paths:,} walks.")
+            tell(f"Begins {name}, with at most {paths:,} walks." if name not in last else
+                 f"Goes on {name}, with at most {paths:,} walks.")
             last[name] = answer, walk = Search(bounding, rounds, paths, lambda text: tell("    " + text)).search(begun)
             if not answer.is_bounded:
                 answer.cut.bits = answer.budget

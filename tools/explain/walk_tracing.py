@@ -2,9 +2,12 @@
 each register and byte are made of: the points with the fewest bits that would all have to cross."""
 from bounds import Walk, path_of
 from cuts import places_of, slot_width
+from guest import PUBLIC
 from instructions import ALL, WIDTHS, decode
 
 DECIDED, ARGUMENTS = ("de", "ou", "st"), {"nr": 17, "a0": 10, "a1": 11, "a2": 12}
+# Where the public input may be any, its bytes have more bits than any slot: nothing crosses where they are read.
+ANY_PUBLIC = {(0, 0, "public"): (1 << 64) - 1}
 
 
 def bits_of(origin):
@@ -42,7 +45,7 @@ class TracedWalk(Walk):
     def __init__(self, task, path):
         super().__init__(task, path)
         self.begin, self.kind, self.places = self.guest.pc, self.guest.kind(), []
-        self.passed, self.starts, self.at_entry, self.counts = [], [], [], {}
+        self.passed, self.starts, self.at_entry, self.counts, self.consumed = [], [], [], {}, {}
         self.registers, self.bytes = [{}] * 32, {}
 
     def pass_visit(self, visit, mask):
@@ -59,7 +62,7 @@ class TracedWalk(Walk):
         """Makes one turn, and follows it with origins."""
         guest, self.begin, self.kind = self.guest, self.guest.pc, self.guest.kind()
         region = guest.entered or guest.by_enter.get(guest.pc)
-        self.passed = []
+        self.passed, self.consumed = [], dict(guest.consumed)
         if self.kind == "enter":
             registers = guest.registers
             self.starts = [(registers[base] if base else 0) + offset & ALL for base, offset, _ in region.ranges]
@@ -118,10 +121,17 @@ class TracedWalk(Walk):
         read = [passed for passed in self.passed if passed.point[2] == "in"]
         for index, passed in enumerate(read):
             self.bytes[self.at("a1").value + index] = passed.origin({})
+        for index in range(self.guest.consumed[PUBLIC] - self.consumed[PUBLIC]):
+            self.bytes[self.at("a1").value + index] = ANY_PUBLIC if self.task.is_any_public else {}
         self.set_register(10, {})
 
     def missing(self):
-        """The points, with masks, at which what was unclear would have to cross; none for another reason."""
+        """The points, with masks, at which what was unclear would have to cross; none for another reason, and none for
+        public bytes that are taken as they are."""
+        return {point: mask for point, mask in self.wanted().items() if point not in ANY_PUBLIC}
+
+    def wanted(self):
+        """The origin of what was unclear."""
         words = (self.unclear or "").split()
         if words[:1] == ["left"]:
             return self.missing_at((int(words[1]), int(words[2], 16), words[3]), int(words[5], 16))

@@ -3,15 +3,20 @@
 Call: bound_tests.py [--first SEED] [--count N] [--flowcheck COMMAND]
 
 Of N random guests (60 without the option) from this seed (1) on it looks for a cut, with at most 24 walks and 400
-turns, beginning without a point and then with a random cut. Where it comes to no answer there must be too many paths.
-What it finds must be as `bound` answers. In the points of a cut that began without one tools/lint.py must find nothing,
-but that a random program file does not say of its code that it is. With the cut and its budget `check` must accept 20
-random secrets, or say that the run stops, breaks a region or does not exit; of a guest with neither regions nor stops
-it must accept all. FLOWCHECK, or the option, is the program; without it the built one is taken, else the model. The
-status is 1 where something is wrong."""
+turns, beginning without a point and then with a random cut; by the tables of rules in turn, and of each second guest of
+any public input. Where it comes to no answer there must be too many paths. What it finds must be as `bound` answers. In
+the points of a cut that began without one tools/lint.py must find nothing, but that a random program file does not say
+of its code that it is. With the cut and its budget `check` must accept 20 random secrets, each with a random public
+input where that may be any, or say that the run stops, breaks a region or does not exit; of a guest with neither
+regions nor stops it must accept all. Then it looks for cuts of guests in C, where a compiler is there, and what it says
+of each must have these words: of a PIN pad the sentence of any public input, and of guests whose states part the line at
+which they do, with what keeps them apart. FLOWCHECK, or the option, is the program; without it the built one is taken,
+else the model. The status is 1 where something is wrong."""
 import argparse
 import os
 import random
+import shutil
+import subprocess
 import sys
 import tempfile
 from collections import Counter
@@ -27,12 +32,23 @@ from cuts import read_cut
 from elf_symbols import ProgramFile
 from guest_folder import GuestFolder
 from lint import Lint
+from parting import Parting
 from programs import random_bytes
 from run_facts import Inputs
 from source_lines import Places
 
 PATHS, TURNS, ROUNDS, SECRETS = 24, 400, 40, 20
 ENDED = ("region", "guest", "turns")
+APART = "What keeps them apart there: "
+# The source, the public input, the length of the secret, options, the status and texts that must be printed.
+GUESTS = [
+    ("examples/pinpad/pinpad.c", bytes(12), 4, ["--any-public"], 0,
+     ["Whatever is typed (12 bytes) and whatever the 4 secret bytes are, the output is one of ", "three runs give away"]),
+    ("tools/guests/kept_count.c", b"", 24, ["--paths", "256"], 1,
+     ["Most states part at this decision", "values[at] > LIMIT", f"{APART}register ", "kept *= 2", "clear or overwrite"]),
+    ("tools/guests/kept_bytes.c", b"", 24, ["--paths", "256"], 1,
+     [APART, " bytes from 0x", "high[at] = ", "decide before you store"]),
+]
 
 
 class Trial(GuestFolder):
@@ -44,11 +60,11 @@ class Trial(GuestFolder):
         files, _ = bound_trial(seed)
         for name, data in files.items():
             self.write(name, data)
-        options = ["--turns", str(TURNS), "--paths", str(PATHS), "--rules", str(1 + seed % 2)]
+        options = ["--turns", str(TURNS), "--paths", str(PATHS), "--rules", str(1 + seed % 3)]
         options += ["--regions", self.path("regions")] if "regions" in files else []
-        self.program, self.cut = ProgramFile(files["program"]), read_cut(files["cut"])
+        self.program, self.cut, self.length = ProgramFile(files["program"]), read_cut(files["cut"]), len(files["public"])
         self.inputs = Inputs(self.path("program"), self.path("public"), None, options)
-        self.bounding = Bounding(self.asked, self.inputs, self.program)
+        self.bounding = Bounding(self.asked, self.inputs, self.program, seed // 3 % 2 == 1)
 
     def wrongs(self):
         """How the searches end, and what is wrong with them."""
@@ -64,7 +80,8 @@ class Trial(GuestFolder):
                 yield from self.bounded_wrongs(answer, beginning[0])
                 bounded_lines(answer, "public", TURNS, None, [])
             else:
-                unclear_lines(answer, walk, self.program, Places(self.path("program"), self.program), [])
+                parting = Parting(self.bounding.task(answer.cut, answer.budget)) if answer.is_waiting() else None
+                unclear_lines(answer, walk, self.program, Places(self.path("program"), self.program), [], parting)
                 is_many = answer.reason.startswith("paths")
                 yield answer.reason.split()[0], None if is_many else f"{beginning[0]}: {answer.reason}"
 
@@ -76,15 +93,32 @@ class Trial(GuestFolder):
             findings = Lint(self.program, answer.cut, self.bounding.regions).all()
             findings = [text for text in findings if text.startswith("point") and "no instruction" not in text]
             yield "linted", "; ".join(findings) or None
-        dice, secrets = random.Random(f"tests {self.seed}"), []
-        for number in range(SECRETS):
-            secrets.append(self.write(f"secret{number}", random_bytes(dice, answer.cut.secret_length)))
-        words = ["check", self.inputs.program, self.inputs.public, self.write("found", answer.cut.text().encode())]
-        words += [str(answer.budget), *secrets, *self.inputs.without("--paths", "--rules")]
-        for line in self.asked.answer(words)[1].split("\n")[:SECRETS]:
-            told = line.split()
-            is_ended = told[0] == "rejected" and told[2] in ENDED and not answer.is_of_all()
-            yield f"secrets {told[0]}", None if told[0] == "accepted" or is_ended else f"{name}: {line}"
+        dice, cut = random.Random(f"tests {self.seed}"), self.write("found", answer.cut.text().encode())
+        secrets = [self.write(f"secret{number}", random_bytes(dice, answer.cut.secret_length)) for number in range(SECRETS)]
+        publics = [self.inputs.public]
+        if self.bounding.is_any_public:
+            publics = [self.write(f"public{number}", random_bytes(dice, self.length)) for number in range(SECRETS)]
+        for number, public in enumerate(publics):
+            named = secrets[number : number + 1] if self.bounding.is_any_public else secrets
+            words = ["check", self.inputs.program, public, cut, str(answer.budget), *named]
+            for line in self.asked.answer([*words, *self.inputs.without("--paths", "--rules")])[1].split("\n")[: len(named)]:
+                told = line.split()
+                is_ended = told[0] == "rejected" and told[2] in ENDED and not answer.is_of_all()
+                yield f"secrets {told[0]}", None if told[0] == "accepted" or is_ended else f"{name}: {line}"
+
+
+def guest_wrongs(folder, compiler, flowcheck):
+    """What is wrong with what bound.py says of guests in C."""
+    files = GuestFolder(folder)
+    for source, public, length, options, status, wanted in GUESTS:
+        program = files.built(compiler, source)
+        words = [sys.executable, os.path.join(TOOLS, "bound.py"), program, files.write("public", public), str(length)]
+        words += [*options, "--output", files.path("cut"), *(["--flowcheck", flowcheck] if flowcheck else [])]
+        done = subprocess.run(words, stdout=subprocess.PIPE, stderr=subprocess.STDOUT, check=False, text=True)
+        told = " ".join(done.stdout.split())
+        missing = [text for text in wanted if text not in told]
+        is_right = done.returncode == status and not missing
+        yield os.path.basename(source), None if is_right else f"{source}: {missing}\n{done.stdout}"
 
 
 def main():
@@ -101,6 +135,13 @@ def main():
                 if fault:
                     wrong += 1
                     print(f"seed {seed}: {fault}", flush=True)
+    if shutil.which("riscv64-unknown-elf-gcc"):
+        with tempfile.TemporaryDirectory() as folder:
+            for kind, fault in guest_wrongs(folder, "gcc", words.flowcheck):
+                counts[kind] += 1
+                if fault:
+                    wrong += 1
+                    print(fault, flush=True)
     print(", ".join(f"{count} {kind}" for kind, count in sorted(counts.items())))
     print(f"{wrong} wrong" if wrong else "all right")
     return 1 if wrong else 0

@@ -23,10 +23,11 @@ import explain
 from answering import Program
 from bound_page import MOST_OUTPUTS, Bounded, bound_page
 from bound_trials import bound_trial
+from bounds import Walk, behind
 from compare_manys import many_trial
 from compare_taints import taint_trial
-from cuts import read_cut
-from decision_tree import DecisionTree
+from cuts import places_of, read_cut
+from decision_tree import GraphLines, Leaf
 from document import html_page, text_page
 from elf_symbols import ProgramFile
 from faults_of_text import cut_text_fault, regions_text_fault
@@ -119,7 +120,7 @@ class Tests(GuestFolder):
     def words(self, *plain, **options):
         """The words of explain.py."""
         named = ("turns", "regions", "rules", "paths", "check", "taint", "bound", "against")
-        usual = dict.fromkeys(named) | {"source": []}
+        usual = dict.fromkeys(named) | {"source": [], "any_public": False}
         program, public, *secret = plain
         given = {"program": program, "public": public, "secret": secret, "flowcheck": self.program}
         return argparse.Namespace(**(usual | given | options))
@@ -240,17 +241,18 @@ class Tests(GuestFolder):
             named = dict(re.findall(r"--(turns|regions|rules|paths)[= ](\S+)", " ".join(words)))
             options = {name: self.path(value) if name == "regions" else value for name, value in named.items()}
             flat = [word for name, value in options.items() for word in (f"--{name}", value)]
-            self.bound(f"seed {seed}", words[4], flat)
+            self.bound(f"seed {seed}", words[4], flat, seed % 4 == 1)
 
-    def bound(self, what, budget, options):
-        """Makes the page of one bound. Its tree must have a leaf for each path."""
+    def bound(self, what, budget, options, is_any_public):
+        """Makes the page of one bound. The lines of its graph must have each state once, and the ways from it; and each
+        path that the model walks from the start must lead through them to its output."""
         program, asked = ProgramFile(read(self.path("program"))), Program(self.program)
         inputs = Inputs(self.path("program"), self.path("public"), None, options)
-        seen = Bounded(asked, inputs, [self.path("cut"), budget], program)
+        seen = Bounded(asked, inputs, [self.path("cut"), budget], program, is_any_public)
         places = Places(self.path("program"), program)
         title, sections = bound_page(seen, program, places)
         text, page = text_page(title, sections), html_page(title, sections)
-        words = ["bound", inputs.program, inputs.public, self.path("cut"), budget, *options, "--list"]
+        words = ["bound", inputs.program, inputs.public, self.path("cut"), budget, *options, *seen.bounding.flags(), "--list"]
         lines = asked.answer(words)[1].split("\n")
         listed = min(MOST_OUTPUTS, sum(line.startswith("output ") for line in lines))
         is_told = "".join(lines[-2].split()) in "".join(text.split())
@@ -258,14 +260,32 @@ class Tests(GuestFolder):
         if seen.walk:
             is_same = seen.walk.unclear == seen.answer.reason or seen.answer.reason.startswith(("paths", "outputs"))
             self.expect(f"walks: {what}", is_same, f"{seen.answer.reason} | {seen.walk.unclear}")
-        elif seen.walks and len(seen.walks) > 1:
-            tree = DecisionTree(seen.walks, seen.answer.patterns, program, places).lines()
-            leaves = sum("-> output " in line or "-> stops" in line for line in tree)
-            self.expect(f"trees: {what}", leaves == len(seen.walks), "\n".join(tree))
+        elif seen.graph:
+            graph = GraphLines(seen.graph, seen.answer.patterns, program, places).lines()
+            states, ways = len(seen.graph.known), sum(" -> " in line for line in graph)
+            is_whole = sum(line.startswith("state ") for line in graph) == states and (not states or ways == seen.graph.ways)
+            self.expect(f"graphs: {what}", is_whole and self.are_led(seen), "\n".join(graph))
         kind = "unclear" if seen.walk else "bounded"
         self.done[f"bounds told: {kind}"] = self.done.get(f"bounds told: {kind}", 0) + 1
         if self.done[f"bounds told: {kind}"] <= 3:
             self.pages.append((f"bound {what}", page))
+
+    def are_led(self, seen):
+        """Whether each path that is walked from the start comes through the graph to the same end; of few paths."""
+        task, path = seen.bounding.task(seen.cut, int(seen.budget)), []
+        for _ in range(64):
+            walk, node, left = Walk(task, path).run(), seen.graph.first, None
+            left = list(walk.choices)
+            while not isinstance(node, Leaf):
+                node, count = next((target, count) for chosen, target in node.ways for count in [bits_in(chosen, left)]
+                                   if count)
+                left = left[count:]
+            if left or node.ending != walk.ending or node.output != bytes(walk.guest.output):
+                return False
+            path = behind(list(walk.choices))
+            if path is None:
+                break
+        return True
 
     def test_manys(self):
         """Pages of several random runs under one cut: what crosses in each must be what `check` says."""
@@ -444,6 +464,12 @@ class Tests(GuestFolder):
             for width in (1280, 390):
                 wide = chromium.overflow(page, width)
                 self.expect(f"windows: {name} at {width}", wide == [], str(wide))
+
+
+def bits_in(chosen, choices):
+    """How many bits were chosen on a way of a graph, where the choices begin with them; else 0."""
+    wanted = [int(value & place != 0) for _, bits, value in chosen for place in places_of(bits)]
+    return len(wanted) if choices[: len(wanted)] == wanted else 0
 
 
 def compilers():

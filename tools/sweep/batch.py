@@ -1,9 +1,10 @@
 #!/usr/bin/env python3
 """batch.py FOLDER NUMBER...
 
-Makes the calls of `check` of the batches with these numbers, one after the other, and puts what each call answered to
-FOLDER/answers/NUMBER. It runs wherever an engine starts it, with Python 3 alone, and reads from FOLDER nothing but
-`manifest.json`, the files that the manifest has the hashes of, and the batch, a secret a line.
+Makes the calls of `check`, or of `bound`, of the batches with these numbers, one after the other, and puts what each
+call answered to FOLDER/answers/NUMBER. It runs wherever an engine starts it, with Python 3 alone, and reads from FOLDER
+nothing but `manifest.json`, the files that the manifest has the hashes of, and the batch, a secret or a public input a
+line.
 The files are copied to a folder of this run, and the copies must have the hashes of the manifest: on other bytes no
 call is made, and the status is 3. The status is 1 where a call died each time that it was tried."""
 import hashlib
@@ -22,6 +23,8 @@ TRIES = 2
 FILES = ("flowcheck", "program", "public", "cut", "regions")
 ACCEPTED = re.compile(r"accepted (\d+) bits (\d+) crossing (-|[0-9a-f]+) output (\d+) status (\d+)")
 REJECTED = re.compile(r"rejected (\d+) ([a-z].*)")
+BOUNDED = re.compile(r"bounded secret \d+(?: public \d+)? regions \d+ paths (\d+|-) stopped (\d+|-) outputs (\d+|-) bits (\d+)")
+UNCLEAR = re.compile(r"unclear path \S+ bits \d+ ([a-z].*)")
 
 
 class OtherBytes(Exception):
@@ -54,8 +57,11 @@ def cut_in(items, size):
     return [items[at : at + size] for at in range(0, len(items), size)]
 
 
-def is_whole(lines, status, count, budget):
-    """Whether these are the lines of a check of so many secrets that ended with this status."""
+def is_whole(lines, status, count, under):
+    """Whether these are the lines of a call on so many secrets, or on a public input, that ended with this status."""
+    if under.get("command") == "bound":
+        pattern = UNCLEAR if status else BOUNDED
+        return status in (0, 1) and len(lines) == 1 and pattern.fullmatch(lines[0]) is not None
     if len(lines) != count + 1:
         return False
     accepted = 0
@@ -64,7 +70,7 @@ def is_whole(lines, status, count, budget):
         if not found or int(found[1]) != number:
             return False
         accepted += found.re is ACCEPTED
-    last = f"checked {count} accepted {accepted} budget {budget}"
+    last = f"checked {count} accepted {accepted} budget {under['budget']}"
     return lines[-1] == last and status == int(accepted < count)
 
 
@@ -72,8 +78,7 @@ class Check:
     """Calls of the built program on the files of one manifest, in a folder that has copies of them."""
 
     def __init__(self, source, scratch, under):
-        self.scratch = scratch
-        self.budget = under["budget"]
+        self.scratch, self.under = scratch, under
         for name in FILES:
             if under[name] is None:
                 continue
@@ -83,13 +88,17 @@ class Check:
             with open(os.path.join(scratch, name), "wb") as file:
                 file.write(content)
         os.chmod(os.path.join(scratch, "flowcheck"), 0o700)
-        self.words = [os.path.join(scratch, "flowcheck"), "check", "program", "public", "cut", str(self.budget)]
+        self.program = os.path.join(scratch, "flowcheck")
         self.options = ["--turns", str(under["turns"])]
         if under["regions"] is not None:
             self.options += ["--regions", "regions"]
 
+    def words(self, names):
+        """The words of a call, but for the options."""
+        return [self.program, "check", "program", "public", "cut", str(self.under["budget"]), *names]
+
     def call(self, secrets):
-        """One call on at most 64 secrets: its lines, or how it died, with its seconds and those of its processor.
+        """One call on at most 64 secrets, or on one public input: its lines, or how it died, with its seconds and those of its processor.
 
         The secrets' files are removed, since it is slow to write over them: ext4 flushes such files at once."""
         names = [f"s{number}" for number in range(1, len(secrets) + 1)]
@@ -98,7 +107,7 @@ class Check:
                 file.write(secret)
         before, begin = resource.getrusage(resource.RUSAGE_CHILDREN), time.perf_counter()
         try:
-            ended = subprocess.run(self.words + names + self.options, cwd=self.scratch, stdin=subprocess.DEVNULL,
+            ended = subprocess.run(self.words(names) + self.options, cwd=self.scratch, stdin=subprocess.DEVNULL,
                                    stdout=subprocess.PIPE, stderr=subprocess.DEVNULL)
             status, text = ended.returncode, ended.stdout.decode(errors="replace")
         except OSError as fault:
@@ -109,7 +118,7 @@ class Check:
         processor = after.ru_utime + after.ru_stime - before.ru_utime - before.ru_stime
         answer = {"seconds": round(seconds, 6), "processor": round(processor, 6)}
         lines = text.splitlines()
-        if text.endswith("\n") and is_whole(lines, status, len(secrets), self.budget):
+        if text.endswith("\n") and is_whole(lines, status, len(secrets), self.under):
             return {**answer, "status": status, "lines": lines}
         return {**answer, "died": how_it_died(status, text)}
 
@@ -119,6 +128,24 @@ class Check:
             if "died" not in answer:
                 break
         return answer
+
+
+class Bound(Check):
+    """Calls of `bound`, each on one public input."""
+
+    def __init__(self, source, scratch, under):
+        super().__init__(source, scratch, under)
+        self.options += ["--rules", str(under["rules"]), "--paths", str(under["paths"])]
+        self.options += ["--any-public"] * under["any_public"]
+
+    def words(self, names):
+        """The words of a call, but for the options."""
+        return [self.program, "bound", "program", *names, "cut", str(self.under["budget"])]
+
+
+def caller(source, scratch, under):
+    """What makes the calls of a manifest."""
+    return (Bound if under.get("command") == "bound" else Check)(source, scratch, under)
 
 
 def how_it_died(status, text):
@@ -148,7 +175,7 @@ def main():
     signal.signal(signal.SIGTERM, lambda *_: sys.exit(128 + signal.SIGTERM))
     scratch = tempfile.mkdtemp(prefix="sweep-")
     try:
-        check = Check(os.path.join(folder, "files"), scratch, manifest["under"])
+        check = caller(os.path.join(folder, "files"), scratch, manifest["under"])
         os.makedirs(os.path.join(folder, "answers"), exist_ok=True)
         died = [run(folder, number, check, manifest, digest(content)) for number in sys.argv[2:]]
         return int(any(died))

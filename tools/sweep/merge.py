@@ -27,9 +27,9 @@ def answer_of(folder, number, sweep):
         if (answer["manifest"], answer["batch"], answer["secrets"]) != (sweep.identity, number, digest(batch)):
             return None
         parts = cut_in(batch.decode().split(), sweep.manifest["call"])
-        budget = sweep.manifest["under"]["budget"]
+        under = sweep.manifest["under"]
         pairs = zip(parts, answer["calls"], strict=True)
-        if all("died" in call or is_whole(call["lines"], call["status"], len(part), budget) for part, call in pairs):
+        if all("died" in call or is_whole(call["lines"], call["status"], len(part), under) for part, call in pairs):
             return answer
     except (OSError, ValueError, KeyError, TypeError, AttributeError):
         pass

@@ -1,8 +1,10 @@
-"""The lists of secrets that a sweep takes: the files of a folder, the lines of a file, or a generator's."""
+"""The lists of secrets, or of public inputs, that a sweep takes: the files of a folder, the lines of a file, or a
+generator's."""
 import hashlib
 import os
 
 MOST_BYTES = 65_536
+MOST_PUBLIC_BYTES = 1_048_576
 SHOWN_BYTES = 32
 
 
@@ -21,7 +23,7 @@ class Folder:
     def __iter__(self):
         for name in self.names:
             with open(os.path.join(self.path, name), "rb") as file:
-                yield file.read(MOST_BYTES + 1)
+                yield file.read(MOST_PUBLIC_BYTES + 1)
 
 
 class Lines:
@@ -73,8 +75,24 @@ class Random:
         return (hashlib.shake_256(b"%d %d" % (self.seed, number)).digest(self.size) for number in range(self.count))
 
 
+class Lengths:
+    """A public input of each length from one to another, of zeros: where the public input may be any, only its length
+    counts."""
+
+    names = None
+
+    def __init__(self, first, last):
+        self.first, self.last = first, last
+        self.text = f"the lengths {first} to {last}"
+
+    def __iter__(self):
+        return (bytes(length) for length in range(self.first, self.last + 1))
+
+
 def lists_of(args):
     """The list that the words of the sweep ask for."""
+    if getattr(args, "lengths", None) is not None:
+        return Lengths(*args.lengths)
     if args.digits is not None:
         return Digits(args.digits)
     if args.random is not None:
@@ -82,12 +100,13 @@ def lists_of(args):
     return Folder(args.secrets) if os.path.isdir(args.secrets) else Lines(args.secrets)
 
 
-def batches(secrets, size):
+def batches(secrets, size, is_public=False):
     """The batches of a list, each the bytes of its file: so many lines of hexadecimal, fewer in the last."""
     lines = []
+    most, name = (MOST_PUBLIC_BYTES, "public input") if is_public else (MOST_BYTES, "secret")
     for number, secret in enumerate(secrets, start=1):
-        if len(secret) > MOST_BYTES:
-            raise Refused(f"secret {number} has more than {MOST_BYTES} bytes, the limit of check")
+        if len(secret) > most:
+            raise Refused(f"{name} {number} has more than {most} bytes, the limit of {'bound' if is_public else 'check'}")
         lines.append(secret.hex() or "-")
         if len(lines) == size:
             yield ("\n".join(lines) + "\n").encode()

@@ -5,7 +5,10 @@ The first byte of a secret says what crosses, the second whether it is rejected,
 call die: 1 the first time, 2 each time, 3 with the batch that makes it, the first time, 4 each time while the folder
 `ill` is there. What differs between calls is kept in the folder that STAND_IN names. A public input of `slow` lets
 each call take some time, `liar` lets equal crossings have other outputs, and `short` lets one have no bits; a cut of
-`bad` is refused."""
+`bad` is refused.
+
+It answers a `bound` by the public input: there are as many outputs as it has bytes in fours, and it is unclear where the
+first byte is 1. A cut of `slow` lets each call take some time; a third byte is as that of a secret."""
 import os
 import signal
 import sys
@@ -59,8 +62,29 @@ def verdict(secret, budget, public):
     return f"accepted {{}} bits {budget} crossing {crossing} output {output} status 0"
 
 
+def bound(words):
+    """Answers a `bound`."""
+    public, cut = (open(name, "rb").read() for name in (words[1], words[2]))
+    if cut == b"bad":
+        print("refused 3 cut version")
+        return 3
+    if cut == b"slow":
+        time.sleep(0.1)
+    die(public)
+    if public[:1] == b"\1":
+        print("unclear path - bits 0 left 0 0x00010000 de mask 0x00000001")
+        return 1
+    typed = f" public {len(public)}" if "--any-public" in words else ""
+    outputs = 1 + len(public) // 4
+    bits = (outputs - 1).bit_length()
+    print(f"bounded secret 4{typed} regions 0 paths {outputs} stopped 0 outputs {outputs} bits {bits}")
+    return 0
+
+
 def main():
     words = [word for word in sys.argv[2:]]
+    if sys.argv[1] == "bound":
+        return bound(words)
     options = words.index("--turns")
     names = [words[1], words[2], *words[4:options]]
     public, cut, *secrets = [open(name, "rb").read() for name in names]

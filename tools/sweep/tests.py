@@ -352,6 +352,89 @@ class Kills(Sweeps):
         self.killed_at_half(lambda begun: os.killpg(begun.pid, signal.SIGKILL))
 
 
+class Bounds(Sweeps):
+    """Sweeps of `bound`."""
+
+    names = ("report.txt", "bounds.csv")
+
+    def words(self, *more, publics=("--lengths", "0-16", "--any-public"), results=None):
+        return [str(SWEEP), "--bound", "program", "cut", "8", *publics, "--flowcheck", str(self.flowcheck),
+                "--results", str(results or self.results), "--jobs", "2", *more]
+
+    def contents(self, folder):
+        return [(folder / name).read_bytes() for name in self.names]
+
+    def test_lengths_are_swept(self):
+        out = self.sweep(status=0)
+        self.assertIn("publics 17 answered 17 bounded 17 unclear 0\n", out)
+        self.assertTrue(out.endswith("most outputs 5 bits 3: 1 of 17, first 17 any of 16 bytes\n"), out)
+        self.assertEqual([row[2] for row in self.rows("bounds.csv")], [str(length) for length in range(17)])
+        self.assertEqual({row[1] for row in self.rows("bounds.csv")}, {"any"})
+
+    def test_lines_are_swept(self):
+        self.put("publics", b"-\n02030405\n01\n0102\n0607080900\n")
+        out = self.sweep(status=1, publics=["publics"])
+        self.assertIn("publics 5 answered 5 bounded 3 unclear 2\n  left 2, first 3 01 of 1 byte, 4 0102 of 2 bytes\n", out)
+        most = "most outputs 2 bits 1: 2 of 5, first 2 02030405 of 4 bytes, 5 0607080900 of 5 bytes\n"
+        self.assertTrue(out.endswith(most), out)
+
+    def test_words_are_refused(self):
+        for publics in [[], ["--lengths", "0-4"], ["--lengths", "4-0", "--any-public"], ["--lengths", "4", "--any-public"],
+                        ["publics", "--lengths", "0-4", "--any-public"], ["--random", "5"]]:
+            self.sweep(status=2, publics=publics)
+
+    def test_a_call_that_dies_each_time_is_named(self):
+        self.put("publics", b"020002\n03\n")
+        out = self.sweep(status=4, publics=["publics"])
+        self.assertIn("publics 2 answered 1 bounded 1 unclear 0\n", out)
+        self.assertIn("not answered: public input 1, in batch 000001: killed by signal 9\n", out)
+
+    def test_what_bound_refuses_for_all_is_told_at_once(self):
+        self.put("cut", b"bad")
+        self.sweep(status=3)
+        self.assertIn("bound ended with status 3, and put 'refused 3 cut version'", self.error)
+
+    def test_another_sweep_is_not_gone_on_with(self):
+        self.sweep(status=0)
+        self.sweep("--resume", "--rules", "2", status=3)
+        self.assertIn("it differs in: rules\n", self.error)
+        self.sweep("--resume", status=3, publics=["--lengths", "0-17", "--any-public"])
+        self.assertIn("of the publics\n", self.error)
+
+    def test_a_sweep_of_lengths_is_killed_and_resumed(self):
+        self.put("cut", b"slow")
+        self.sweep("--calls", "1", status=0, results=self.folder / "one-go")
+        begun = self.begin("--calls", "1")
+        answers = self.results / "answers"
+        while not answers.exists() or sum(name.isdigit() for name in os.listdir(answers)) < 6:
+            self.assertIsNone(begun.poll())
+            time.sleep(0.02)
+        os.killpg(begun.pid, signal.SIGKILL)
+        begun.communicate()
+        before = {name: (answers / name).stat().st_mtime_ns for name in os.listdir(answers) if name.isdigit()}
+        self.assertLess(len(before), 17)
+        self.sweep("--resume", status=0)
+        self.assertEqual(self.contents(self.results), self.contents(self.folder / "one-go"))
+        self.assertEqual({name: (answers / name).stat().st_mtime_ns for name in before}, before)
+
+    def test_the_lengths_that_are_typed_at_a_guest(self):
+        self.flowcheck = BUILT or self.model()
+        for name, path in [("program", TOP / "crates/machine_rows/data/pin-gcc.elf"),
+                           ("cut", TOP / "examples/guests/cut")]:
+            shutil.copy(path, self.folder / name)
+        out = self.sweep(status=0)
+        self.assertIn("publics 17 answered 17 bounded 17 unclear 0\n", out)
+        self.assertTrue(out.endswith("most outputs 4 bits 2: 5 of 17, first 13 any of 12 bytes, 14 any of 13 bytes, "
+                                     "15 any of 14 bytes\n"), out)
+
+    def model(self):
+        """A file that calls the model."""
+        path = self.folder / "model"
+        path.write_text(f'#!/bin/sh\nexec "{sys.executable}" "{TOP}/tools/model/flowcheck.py" "$@"\n')
+        path.chmod(0o755)
+        return path
+
+
 class Built(Sweeps):
     """The example guest with the built program, over some of its PINs."""
 

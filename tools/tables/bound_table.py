@@ -1,10 +1,11 @@
 #!/usr/bin/env python3
 """Bounds the outputs of the guests of examples/ and of three of guests/, and tries other secrets.
 
-Call: bound_table.py [--others N] [--seed N] [--guest NAME...] [--compiler NAME] [--paths N] [--flowcheck COMMAND]
+Call: bound_table.py [--others N] [--seed N] [--guest NAME...] [--compiler NAME] [--rules N] [--paths N]
+                     [--flowcheck COMMAND]
 
-Of each guest it measures a secret, and looks for a cut as bound.py does, beginning with the measured one. The last four
-have a region each, which regions.py writes of some secrets. Then N other secrets (1,000 without the option) are drawn
+Of each guest it measures a secret, and looks for a cut as bound.py does, beginning with the measured one. Four have a
+region each, which regions.py writes of some secrets. Then N other secrets (1,000 without the option) are drawn
 by the seed (1 without it): half of them as the guest expects them, half of any bytes. Each is run by `qemu-riscv32`
 (Debian qemu-user), and its output is looked for among those of the list. The model runs what qemu does not load, the
 guest of examples/bit, and all where qemu is not there.
@@ -27,7 +28,7 @@ TOOLS = os.path.dirname(os.path.dirname(os.path.abspath(__file__)))
 sys.path[:0] = [os.path.join(TOOLS, name) for name in ("explain", "model", "guests", "")]
 
 from answering import Program
-from bounding import Bounding, found
+from bounding import SEARCH_RULES, Bounding, found
 from elf_symbols import ProgramFile
 from guest_folder import GuestFolder, content
 from how_many_runs import SMALL, auctions, contacts, names, passwords, readings
@@ -60,6 +61,16 @@ def tried_passwords(dice):
     return dice.choice(tried) if dice.random() < 0.33 else "".join(dice.choice(SMALL) for _ in range(8)).encode()
 
 
+def votes(dice):
+    """Fifteen votes."""
+    return bytes(dice.choice(b"AB-") for _ in range(15))
+
+
+def groups(dice):
+    """The groups of twenty records."""
+    return bytes(dice.randrange(6) for _ in range(20))
+
+
 # The name, the source or the program file, the public input, how a secret is drawn, and what a region is put around.
 GUESTS = [
     ("bit", ASSEMBLED, b"", any_bytes(1), None),
@@ -77,6 +88,13 @@ GUESTS = [
     ("median", "tools/guests/median.c", b"", any_bytes(15), "median.c:10-15"),
     ("warning", "tools/guests/warning.c", b"", readings, "score"),
     ("contacts", "tools/guests/contacts.c", bytes([2, 5, 6, 9, 12, 16, 21, 28]), contacts, "shared"),
+    ("pinpad", "examples/pinpad/pinpad.c", content("examples/pinpad/typed"), tried_pins, None),
+    ("printed", "examples/auction/printed.c", b"", any_bytes(32), None),
+    ("rising", "examples/meeting/auction.c", b"", any_bytes(8), None),
+    ("sorted", "examples/meeting/median.c", b"", any_bytes(15), None),
+    ("votes", "examples/meeting/votes.c", b"", votes, None),
+    ("luhn", "examples/meeting/luhn.c", b"", digits(16), None),
+    ("records", "examples/meeting/records.c", b"", groups, None),
 ]
 
 
@@ -93,7 +111,8 @@ class Guest(GuestFolder):
         self.public = self.write("public", public)
         self.first = self.write("first", self.draw(self.dice))
         options = ["--regions", self.write("regions", self.regions(around))] if around else []
-        inputs = Inputs(self.program, self.public, None, [*options, "--paths", str(words.paths)])
+        options += ["--rules", words.rules, "--paths", str(words.paths)]
+        inputs = Inputs(self.program, self.public, None, options)
         self.bounding = Bounding(self.asked, inputs, ProgramFile(read(self.program)))
 
     def regions(self, around):
@@ -161,6 +180,7 @@ def main():
     parser.add_argument("--seed", type=int, default=1, metavar="N")
     parser.add_argument("--guest", nargs="+", default=[guest[0] for guest in GUESTS], metavar="NAME")
     parser.add_argument("--compiler", default="gcc", metavar="NAME")
+    parser.add_argument("--rules", default=SEARCH_RULES, metavar="N")
     parser.add_argument("--paths", type=int, default=1 << 16, metavar="N")
     parser.add_argument("--flowcheck", metavar="COMMAND")
     words, unlisted = parser.parse_args(), 0
