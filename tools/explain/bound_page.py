@@ -10,6 +10,7 @@ from cuts import read_cut
 from decision_tree import MOST_STATES, MOST_WAYS, DecisionGraph, GraphLines, Leaf, TooMany, address_words
 from document import Commands, Section, Table, Words
 from faults_of_text import cut_text_fault
+from graph_picture import GraphPicture
 from guest import shown
 from instruction_text import instruction_text, slot_words
 from parting import Parting
@@ -104,12 +105,13 @@ def tree_section(bounded, places):
     if not bounded.graph:
         many = MANY.format(states=MOST_STATES, ways=MOST_WAYS)
         return Section(TREE, Words(numbers_words(bounded.answer, None)), Words(many, "dim"))
+    picture = GraphPicture(bounded.graph, bounded.answer.patterns).drawing()
     lines = GraphLines(bounded.graph, bounded.answer.patterns, bounded.program, places).lines()
     told = (
         "By the model in tools/model: each state at which a bit is chosen, with the ways on. Paths that come to the same "
         "state are the same from there on."
     )
-    return Section(TREE, Words(told, "dim"), Commands(lines, "tree"))
+    return Section(TREE, Words(told, "dim"), *([picture] if picture else []), Commands(lines, "tree"))
 
 
 def where_section(bounded, program, places):
