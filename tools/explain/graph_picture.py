@@ -60,8 +60,11 @@ class GraphPicture:
                  'aria-label="The states at which a bit is chosen, and the ways between them">']
         for source, target in self.ways:
             (left, top), (other, below) = places[source], places[target]
-            parts.append(f'<path class="way" d="M {left + box / 2:.1f} {top + HEIGHT} L {other + box / 2:.1f} {below}"/>')
+            begin, end = f"{left + box / 2:.1f} {top + HEIGHT}", f"{other + box / 2:.1f} {below}"
+            parts.append(f'<path class="way" d="M {begin} L {end}"/>')
         for name, (left, top) in places.items():
-            parts.append(f'<g class="box {self.kinds[name]}"><rect x="{left:.1f}" y="{top}" width="{box:.1f}" height="{HEIGHT}"/>'
-                         f'<text x="{left + box / 2:.1f}" y="{top + 20}" text-anchor="middle">{html.escape(name)}</text></g>')
+            parts.append(f'<g class="box {self.kinds[name]}">')
+            parts.append(f'<rect x="{left:.1f}" y="{top}" width="{box:.1f}" height="{HEIGHT}"/>')
+            middle = f'x="{left + box / 2:.1f}" y="{top + 20}" text-anchor="middle"'
+            parts.append(f"<text {middle}>{html.escape(name)}</text></g>")
         return "".join(parts + ["</svg>"])
