@@ -83,7 +83,8 @@ def parting_of(bounding, answer):
 def say(lines):
     """Prints lines; sentences are broken where they are long."""
     for line in lines:
-        print(line if line.startswith(" ") else textwrap.fill(line, WIDTH, break_long_words=False, break_on_hyphens=False))
+        is_sentence = not line.startswith(" ")
+        print(textwrap.fill(line, WIDTH, break_long_words=False, break_on_hyphens=False) if is_sentence else line)
 
 
 def main():

@@ -9,8 +9,9 @@ Call: explain.py PROG PUBLIC SECRET... [--turns N] [--regions FILE] [--rules N] 
 The first form measures a run, and says why its number is what it is and what would lower it; or it measures several
 together, with one cut, and says what crosses at it in each. The second says of a secret that `check` rejects where and
 why, and the third of one that is unclear to `taint`, with the lines of a cut that would clear it. The fourth has all
-outputs that `bound` lists, with the states at which bits are chosen where there are few, and beside them what is measured
-of a secret that is named; with --any-public it is of any public input of the length of PUBLIC. Each writes one HTML file, which needs nothing beside it, or with --text a text for a terminal.
+outputs that `bound` lists, with the states at which bits are chosen where there are few, and beside them what is
+measured of a secret that is named; with --any-public it is of any public input of the length of PUBLIC. Each writes one
+HTML file, which needs nothing beside it, or with --text a text for a terminal.
 
   --against CUT        of one secret: this measurement beside an earlier one, of which there is a cut or a page
   --output FILE        the file of the page; without it `explain.html`, and `-` is standard output

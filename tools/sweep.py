@@ -7,8 +7,8 @@ SECRETS is a folder whose files are the secrets, or a file with a secret a line 
 --random say which they are. Status 0: all secrets are accepted; 1: all are judged, and some rejected; 2: the words are
 no command line; 3: the sweep is refused; 4: some secrets are not judged; 5: the answers contradict the bound.
 
-With --bound it asks `bound` of many public inputs, each in a call of its own: `sweep.py --bound PROG CUT BUDGET PUBLICS`,
-of which `sweep.py --bound --help` says more."""
+With --bound it asks `bound` of many public inputs, each in a call of its own: `sweep.py --bound PROG CUT BUDGET
+PUBLICS`, of which `sweep.py --bound --help` says more."""
 import argparse
 import fcntl
 import json
@@ -36,13 +36,13 @@ from refusals import cut_fault, program_fault, regions_fault
 from secret_lists import Refused, lists_of
 
 
-BOUND = """Asks `bound` of many public inputs with one program, cut, regions, budget, limits of turns and of walks, each in a
-call of its own. The calls are handed to GNU parallel, on this machine or over ssh, or to Slurm. Puts a report, whose last
-line says where the most outputs are, and beside it a table.
+BOUND = """Asks `bound` of many public inputs with one program, cut, regions, budget, limits of turns and of walks, each
+in a call of its own. The calls are handed to GNU parallel, on this machine or over ssh, or to Slurm. Puts a report,
+whose last line says where the most outputs are, and beside it a table.
 
-PUBLICS is a folder whose files are the public inputs, or a file with one a line in hexadecimal; else --lengths, --digits
-or --random say which they are. Status 0: all are bounded; 1: all are answered, and some are unclear; 2: the words are no
-command line; 3: the sweep is refused; 4: some are not answered."""
+PUBLICS is a folder whose files are the public inputs, or a file with one a line in hexadecimal; else --lengths,
+--digits or --random say which they are. Status 0: all are bounded; 1: all are answered, and some are unclear; 2: the
+words are no command line; 3: the sweep is refused; 4: some are not answered."""
 
 
 def number(lowest, highest):

@@ -10,6 +10,7 @@ from cuts import read_cut
 from decision_tree import MOST_STATES, MOST_WAYS, DecisionGraph, GraphLines, Leaf, TooMany, address_words
 from document import Commands, Section, Table, Words
 from faults_of_text import cut_text_fault
+from graph_picture import GraphPicture
 from guest import shown
 from instruction_text import instruction_text, slot_words
 from parting import Parting
@@ -19,8 +20,8 @@ from run_facts import Inputs, read
 
 MOST_OUTPUTS, TREE = 50, "The decisions"
 NOT_SAID = (
-    "It is said for {public}, and for secrets of this length. It is not said of time, and not of how likely a secret is. A "
-    "listed output need not be that of a secret."
+    "It is said for {public}, and for secrets of this length. It is not said of time, and not of how likely a secret "
+    "is. A listed output need not be that of a secret."
 )
 MANY = (
     "The states at which a bit is chosen are not shown: there are more than {states}, or more than {ways} ways between "
@@ -104,12 +105,13 @@ def tree_section(bounded, places):
     if not bounded.graph:
         many = MANY.format(states=MOST_STATES, ways=MOST_WAYS)
         return Section(TREE, Words(numbers_words(bounded.answer, None)), Words(many, "dim"))
+    picture = GraphPicture(bounded.graph, bounded.answer.patterns).drawing()
     lines = GraphLines(bounded.graph, bounded.answer.patterns, bounded.program, places).lines()
     told = (
-        "By the model in tools/model: each state at which a bit is chosen, with the ways on. Paths that come to the same "
-        "state are the same from there on."
+        "By the model in tools/model: each state at which a bit is chosen, with the ways on. Paths that come to the "
+        "same state are the same from there on."
     )
-    return Section(TREE, Words(told, "dim"), Commands(lines, "tree"))
+    return Section(TREE, Words(told, "dim"), *([picture] if picture else []), Commands(lines, "tree"))
 
 
 def where_section(bounded, program, places):
@@ -117,8 +119,8 @@ def where_section(bounded, program, places):
     walk = bounded.walk
     if bounded.parting and bounded.parting.point:
         lines = parting_lines(bounded.parting, program, places)
-        return Section("Where states part", Words(lines[0]), Commands(lines[1:2]), Words(lines[2]), Commands(lines[3:-1]),
-                       Words(lines[-1]))
+        blocks = [Words(lines[0]), Commands(lines[1:2]), Words(lines[2]), Commands(lines[3:-1]), Words(lines[-1])]
+        return Section("Where states part", *blocks)
     if walk is None or reason_kind(bounded.answer.reason) not in ("left", "base", "secret-code"):
         return None
     address = walk.begin

@@ -17,14 +17,14 @@ VALUES = (
     "free and no choice, so let them cross there where nothing is decided by them."
 )
 STATES = (
-    "Let these be the same again: clear or overwrite what is no longer wanted, such as a counter that is kept, a buffer "
-    "that was filled, or a value that crossed and is stored; or decide before you store."
+    "Let these be the same again: clear or overwrite what is no longer wanted, such as a counter that is kept, a "
+    "buffer that was filled, or a value that crossed and is stored; or decide before you store."
 )
 OUTPUTS = "Give the result of the region fewer bits, as by a mask behind the call."
 ADVICE = {
     "left": "The walk decides by this slot, or shows it, and some of its bits may differ and have not crossed.",
-    "paths": "As many walks as --paths says are not enough. It may be up to 1048576. A walk ends where it comes to a state "
-    "that is known, so many walks are wanted where few paths come to the same state.",
+    "paths": "As many walks as --paths says are not enough. It may be up to 1048576. A walk ends where it comes to a "
+    "state that is known, so many walks are wanted where few paths come to the same state.",
     "outputs": "The different outputs have too many bytes together. Write less, or let the bits cross where they are "
     "written, where bits are free.",
     "budget": "More bits cross on this path than any budget allows.",
@@ -73,8 +73,8 @@ def claim(answer, turns):
         return f"{told}, the output is {count_words(numbers)}; {runs_words(numbers)}."
     typed = "" if public is None else f"public input of {bytes_words(public)} and every "
     return (
-        f"Of every {typed}secret of {bytes_words(length)} whose run ends within {turns:,} turns and breaks no region, the "
-        f"output is {count_words(numbers)}."
+        f"Of every {typed}secret of {bytes_words(length)} whose run ends within {turns:,} turns and breaks no region, "
+        f"the output is {count_words(numbers)}."
     )
 
 

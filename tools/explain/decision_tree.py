@@ -1,5 +1,5 @@
-"""The decisions of all paths of `bound` as a graph of states, by the model: a state at which bits are chosen is walked on
-from once, however many paths come to it."""
+"""The decisions of all paths of `bound` as a graph of states, by the model: a state at which bits are chosen is walked
+on from once, however many paths come to it."""
 from bounds import Unclear, behind
 from guest import shown
 from instruction_text import instruction_text
@@ -29,8 +29,8 @@ class Leaf:
 
 
 class State:
-    """A state at which bits are chosen: its number, the point of the first bit, and the ways on, each as the points with
-    the bits that were chosen, and what comes next. `is_closed` says that all ways are known."""
+    """A state at which bits are chosen: its number, the point of the first bit, and the ways on, each as the points
+    with the bits that were chosen, and what comes next. `is_closed` says that all ways are known."""
 
     def __init__(self, number):
         self.number, self.point, self.ways, self.is_closed = number, None, [], False

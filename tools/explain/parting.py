@@ -9,20 +9,20 @@ from collections import Counter
 
 from bounds import Walk
 from cuts import places_of
-from guest import shown
+from guest import READ, shown
 from instruction_text import NAMES, instruction_text
 from instructions import ALL, WIDTHS, decode
 from states import entry_part, guest_part, masks_part, shown_part, visits_part
 
-MOST_WALKS, MOST_TURNS, MOST_BITS, MOST_TOLD = 48, 200_000, 4096, 4
+MOST_WALKS, MOST_TURNS, MOST_BITS, MOST_READ, MOST_TOLD = 48, 200_000, 4096, 4096, 4
 PARTS = [guest_part, masks_part, shown_part, entry_part, visits_part]
 REGISTERS, BYTES, OUTPUT, INPUTS, VISITS = "registers", "bytes", "output", "inputs", "visits"
 
 
 class DrawnWalk(Walk):
-    """A walk along a drawn string that notes each turn at which bits were chosen: `look` is given the first point of the
-    turn, the number of its visit, and the state before the turn. `writers` has the instruction that wrote a register or
-    a byte last."""
+    """A walk along a drawn string that notes each turn at which bits were chosen: `look` is given the first point of
+    the turn, the number of its visit, and the state before the turn. `writers` has the instruction that wrote a
+    register or a byte last."""
 
     def __init__(self, task, number, look):
         dice = random.Random(f"parting {number}")
@@ -52,15 +52,16 @@ class DrawnWalk(Walk):
     def written(self):
         """The registers, by their numbers, and the bytes, as pairs, that the next instruction writes."""
         guest = self.guest
-        instruction = decode(guest.word(guest.pc, 4)) if guest.kind() == "step" and guest.is_inside(guest.pc, 4) else None
+        is_step = guest.kind() == "step" and guest.is_inside(guest.pc, 4)
+        instruction = decode(guest.word(guest.pc, 4)) if is_step else None
         if instruction is None:
             return []
         if instruction.form == "store":
             first = guest.registers[instruction.first] + instruction.immediate & ALL
             return [("byte", first + index) for index in range(WIDTHS[instruction.name])]
         if instruction.form == "call":
-            first, count = guest.registers[11], guest.registers[12]
-            return [10] + [("byte", first + index) for index in range(min(count, 4096) if guest.registers[17] == 63 else 0)]
+            first, count = guest.registers[11], guest.registers[12] if guest.registers[17] == READ else 0
+            return [10] + [("byte", first + index) for index in range(min(count, MOST_READ))]
         return [instruction.destination] if instruction.form != "branch" else []
 
 

@@ -9,9 +9,9 @@ the points of a cut that began without one tools/lint.py must find nothing, but 
 of its code that it is. With the cut and its budget `check` must accept 20 random secrets, each with a random public
 input where that may be any, or say that the run stops, breaks a region or does not exit; of a guest with neither
 regions nor stops it must accept all. Then it looks for cuts of guests in C, where a compiler is there, and what it says
-of each must have these words: of a PIN pad the sentence of any public input, and of guests whose states part the line at
-which they do, with what keeps them apart. FLOWCHECK, or the option, is the program; without it the built one is taken,
-else the model. The status is 1 where something is wrong."""
+of each must have these words: of a PIN pad the sentence of any public input, and of guests whose states part the line
+at which they do, with what keeps them apart. FLOWCHECK, or the option, is the program; without it the built one is
+taken, else the model. The status is 1 where something is wrong."""
 import argparse
 import os
 import random
@@ -43,9 +43,10 @@ APART = "What keeps them apart there: "
 # The source, the public input, the length of the secret, options, the status and texts that must be printed.
 GUESTS = [
     ("examples/pinpad/pinpad.c", bytes(12), 4, ["--any-public"], 0,
-     ["Whatever is typed (12 bytes) and whatever the 4 secret bytes are, the output is one of ", "three runs give away"]),
+     ["Whatever is typed (12 bytes) and whatever the 4 secret bytes are, the output is one of 4; three runs give away "
+      "at most 6 bits."]),
     ("tools/guests/kept_count.c", b"", 24, ["--paths", "256"], 1,
-     ["Most states part at this decision", "values[at] > LIMIT", f"{APART}register ", "kept *= 2", "clear or overwrite"]),
+     ["Most states part at this decision", "values[at] > LIMIT", f"{APART}register ", "kept *= 2", "clear or over"]),
     ("tools/guests/kept_bytes.c", b"", 24, ["--paths", "256"], 1,
      [APART, " bytes from 0x", "high[at] = ", "decide before you store"]),
 ]
@@ -62,7 +63,8 @@ class Trial(GuestFolder):
             self.write(name, data)
         options = ["--turns", str(TURNS), "--paths", str(PATHS), "--rules", str(1 + seed % 3)]
         options += ["--regions", self.path("regions")] if "regions" in files else []
-        self.program, self.cut, self.length = ProgramFile(files["program"]), read_cut(files["cut"]), len(files["public"])
+        self.program, self.cut = ProgramFile(files["program"]), read_cut(files["cut"])
+        self.length = len(files["public"])
         self.inputs = Inputs(self.path("program"), self.path("public"), None, options)
         self.bounding = Bounding(self.asked, self.inputs, self.program, seed // 3 % 2 == 1)
 
@@ -85,6 +87,10 @@ class Trial(GuestFolder):
                 is_many = answer.reason.startswith("paths")
                 yield answer.reason.split()[0], None if is_many else f"{beginning[0]}: {answer.reason}"
 
+    def drawn(self, name, dice, length):
+        """Files of random bytes."""
+        return [self.write(f"{name}{number}", random_bytes(dice, length)) for number in range(SECRETS)]
+
     def bounded_wrongs(self, answer, name):
         """What is wrong with a cut that was found."""
         if self.bounding.answer(answer.cut, answer.budget).line != answer.line:
@@ -94,14 +100,13 @@ class Trial(GuestFolder):
             findings = [text for text in findings if text.startswith("point") and "no instruction" not in text]
             yield "linted", "; ".join(findings) or None
         dice, cut = random.Random(f"tests {self.seed}"), self.write("found", answer.cut.text().encode())
-        secrets = [self.write(f"secret{number}", random_bytes(dice, answer.cut.secret_length)) for number in range(SECRETS)]
-        publics = [self.inputs.public]
-        if self.bounding.is_any_public:
-            publics = [self.write(f"public{number}", random_bytes(dice, self.length)) for number in range(SECRETS)]
+        secrets = self.drawn("secret", dice, answer.cut.secret_length)
+        publics = self.drawn("public", dice, self.length) if self.bounding.is_any_public else [self.inputs.public]
         for number, public in enumerate(publics):
             named = secrets[number : number + 1] if self.bounding.is_any_public else secrets
             words = ["check", self.inputs.program, public, cut, str(answer.budget), *named]
-            for line in self.asked.answer([*words, *self.inputs.without("--paths", "--rules")])[1].split("\n")[: len(named)]:
+            lines = self.asked.answer([*words, *self.inputs.without("--paths", "--rules")])[1].split("\n")
+            for line in lines[: len(named)]:
                 told = line.split()
                 is_ended = told[0] == "rejected" and told[2] in ENDED and not answer.is_of_all()
                 yield f"secrets {told[0]}", None if told[0] == "accepted" or is_ended else f"{name}: {line}"

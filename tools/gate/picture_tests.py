@@ -31,6 +31,7 @@ from decision_tree import GraphLines, Leaf
 from document import html_page, text_page
 from elf_symbols import ProgramFile
 from faults_of_text import cut_text_fault, regions_text_fault
+from graph_picture import WIDE, GraphPicture
 from guest_folder import GuestFolder
 from many_page import many_page
 from many_runs import ManyRuns
@@ -252,7 +253,8 @@ class Tests(GuestFolder):
         places = Places(self.path("program"), program)
         title, sections = bound_page(seen, program, places)
         text, page = text_page(title, sections), html_page(title, sections)
-        words = ["bound", inputs.program, inputs.public, self.path("cut"), budget, *options, *seen.bounding.flags(), "--list"]
+        words = ["bound", inputs.program, inputs.public, self.path("cut"), budget, *options]
+        words += [*seen.bounding.flags(), "--list"]
         lines = asked.answer(words)[1].split("\n")
         listed = min(MOST_OUTPUTS, sum(line.startswith("output ") for line in lines))
         is_told = "".join(lines[-2].split()) in "".join(text.split())
@@ -263,8 +265,15 @@ class Tests(GuestFolder):
         elif seen.graph:
             graph = GraphLines(seen.graph, seen.answer.patterns, program, places).lines()
             states, ways = len(seen.graph.known), sum(" -> " in line for line in graph)
-            is_whole = sum(line.startswith("state ") for line in graph) == states and (not states or ways == seen.graph.ways)
+            is_whole = sum(line.startswith("state ") for line in graph) == states
+            is_whole = is_whole and (not states or ways == seen.graph.ways)
             self.expect(f"graphs: {what}", is_whole and self.are_led(seen), "\n".join(graph))
+            picture = GraphPicture(seen.graph, seen.answer.patterns)
+            drawn = re.findall(r'<g class="box cut"><rect [^>]*/><text [^>]*>(state \d+)</text></g>', picture.svg(WIDE))
+            numbers = {f"state {number}" for number in range(1, states + 1)}
+            if picture.places(WIDE)[0]:
+                is_drawn = len(drawn) == states and set(drawn) == numbers
+                self.expect(f"graphs drawn: {what}", is_drawn, f"{drawn} of {states}")
         kind = "unclear" if seen.walk else "bounded"
         self.done[f"bounds told: {kind}"] = self.done.get(f"bounds told: {kind}", 0) + 1
         if self.done[f"bounds told: {kind}"] <= 3:

@@ -4,9 +4,8 @@
 Makes the calls of `check`, or of `bound`, of the batches with these numbers, one after the other, and puts what each
 call answered to FOLDER/answers/NUMBER. It runs wherever an engine starts it, with Python 3 alone, and reads from FOLDER
 nothing but `manifest.json`, the files that the manifest has the hashes of, and the batch, a secret or a public input a
-line.
-The files are copied to a folder of this run, and the copies must have the hashes of the manifest: on other bytes no
-call is made, and the status is 3. The status is 1 where a call died each time that it was tried."""
+line. The files are copied to a folder of this run, and the copies must have the hashes of the manifest: on other bytes
+no call is made, and the status is 3. The status is 1 where a call died each time that it was tried."""
 import hashlib
 import json
 import os
@@ -23,7 +22,8 @@ TRIES = 2
 FILES = ("flowcheck", "program", "public", "cut", "regions")
 ACCEPTED = re.compile(r"accepted (\d+) bits (\d+) crossing (-|[0-9a-f]+) output (\d+) status (\d+)")
 REJECTED = re.compile(r"rejected (\d+) ([a-z].*)")
-BOUNDED = re.compile(r"bounded secret \d+(?: public \d+)? regions \d+ paths (\d+|-) stopped (\d+|-) outputs (\d+|-) bits (\d+)")
+BOUNDED = re.compile(r"bounded secret \d+(?: public \d+)? regions \d+ paths (\d+|-) stopped (\d+|-) "
+                     r"outputs (\d+|-) bits (\d+)")
 UNCLEAR = re.compile(r"unclear path \S+ bits \d+ ([a-z].*)")
 
 
@@ -98,7 +98,8 @@ class Check:
         return [self.program, "check", "program", "public", "cut", str(self.under["budget"]), *names]
 
     def call(self, secrets):
-        """One call on at most 64 secrets, or on one public input: its lines, or how it died, with its seconds and those of its processor.
+        """One call on at most 64 secrets, or on one public input: its lines, or how it died, with its seconds and those
+        of its processor.
 
         The secrets' files are removed, since it is slow to write over them: ext4 flushes such files at once."""
         names = [f"s{number}" for number in range(1, len(secrets) + 1)]

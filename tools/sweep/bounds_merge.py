@@ -1,5 +1,5 @@
-"""What the answers of a sweep of `bound` say together: a line for each public input, the counts by reason, and where the
-most outputs are."""
+"""What the answers of a sweep of `bound` say together: a line for each public input, the counts by reason, and where
+the most outputs are."""
 import json
 import os
 
@@ -69,7 +69,8 @@ def reason_of(why):
 
 def places_text(places):
     """The first of some public inputs."""
-    return ", ".join(f"{number} {name} of {length} byte{'' if length == 1 else 's'}" for number, name, length in places[:FIRST])
+    return ", ".join(f"{number} {name} of {length} byte{'' if length == 1 else 's'}"
+                     for number, name, length in places[:FIRST])
 
 
 def report_of(merged):

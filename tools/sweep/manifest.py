@@ -5,8 +5,8 @@ program, the budget and the limit of turns. Calls that agree in these are covere
 the hash of `under` alone names the bound. `secrets` has the number of secrets and the SHA-256 of the lines that spell
 them, and `call` and `batch` say how many secrets a call of check and how many a batch have.
 
-The manifest of a sweep of `bound` has no public input in `under`, but the command, its table of rules, its limit of walks
-and whether the public input may be any; and `publics` in the place of `secrets`."""
+The manifest of a sweep of `bound` has no public input in `under`, but the command, its table of rules, its limit of
+walks and whether the public input may be any; and `publics` in the place of `secrets`."""
 import hashlib
 import json
 import os

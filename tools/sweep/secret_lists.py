@@ -103,10 +103,12 @@ def lists_of(args):
 def batches(secrets, size, is_public=False):
     """The batches of a list, each the bytes of its file: so many lines of hexadecimal, fewer in the last."""
     lines = []
-    most, name = (MOST_PUBLIC_BYTES, "public input") if is_public else (MOST_BYTES, "secret")
+    most, name, command = MOST_BYTES, "secret", "check"
+    if is_public:
+        most, name, command = MOST_PUBLIC_BYTES, "public input", "bound"
     for number, secret in enumerate(secrets, start=1):
         if len(secret) > most:
-            raise Refused(f"{name} {number} has more than {most} bytes, the limit of {'bound' if is_public else 'check'}")
+            raise Refused(f"{name} {number} has more than {most} bytes, the limit of {command}")
         lines.append(secret.hex() or "-")
         if len(lines) == size:
             yield ("\n".join(lines) + "\n").encode()

@@ -7,8 +7,8 @@ call die: 1 the first time, 2 each time, 3 with the batch that makes it, the fir
 each call take some time, `liar` lets equal crossings have other outputs, and `short` lets one have no bits; a cut of
 `bad` is refused.
 
-It answers a `bound` by the public input: there are as many outputs as it has bytes in fours, and it is unclear where the
-first byte is 1. A cut of `slow` lets each call take some time; a third byte is as that of a secret."""
+It answers a `bound` by the public input: there are as many outputs as it has bytes in fours, and it is unclear where
+the first byte is 1. A cut of `slow` lets each call take some time; a third byte is as that of a secret."""
 import os
 import signal
 import sys
