@@ -10,12 +10,12 @@ use Rattle.transfer_rules.specs.declared.classes.Class.{Class}
 use Rattle.transfer_rules.specs.declared.classes.Class.TheVariants.{Add, Sub, And, Or, Xor, Sll, Srl, Sra, Slt, Sltu}
 use Rattle.transfer_rules.specs.declared.classes.Class.TheVariants.{Equal, Mul, Mulh, Mulhsu, Mulhu, Div, Divu, Rem, Remu}
 use Rattle.transfer_rules.specs.declared.operands.Operands.{Operands}
-use Rattle.transfer_rules.specs.declared.ranges.Bounds.{Bounds}
 use Rattle.transfer_rules.specs.Classes.{branch_class, operation_class}
 use Rattle.transfer_rules.specs.Soundness.{AreWords, IsSound, IsSoundTarget}
 use Rattle.transfer_rules.specs.Table1.{all_mask, either, flipped, mask_by_table_1, one_mask, sum_mask}
 use Rattle.transfer_rules.specs.Table2.{greatest, least, lowest, mask_by_table_2}
-use Rattle.transfer_rules.specs.Table3.{bounds_of, if_secret, mask_by_table_3, quotient_range, remainder_range, span, unless_signed, upper_range}
+use Rattle.transfer_rules.specs.Table3.{bounds_of, mask_by_table_3, product_range, quotient_range, remainder_range, span}
+use Rattle.transfer_rules.specs.Table3.{unless_signed, upper_range}
 use Rattle.transfer_rules.specs.Tables.{Table}
 use Rattle.transfer_rules.proofs.Instructions.{target_by_sum}
 use Rattle.transfer_rules.proofs.Masks.{sound_by_table_1}
@@ -109,9 +109,8 @@ table_2_word Remu o words = table_1_word Remu o words
 
 -- ---- the masks of ranges
 
-secret_word : (o : Operands) (range : Bounds → Bounds → ℕ) →
-    range (bounds_of o.v1 o.m1) (bounds_of o.v2 o.m2) < 2 ^ 32 → if_secret o range < 2 ^ 32
-secret_word o range small = choice_word (either o == 0) 0 _ (omega arith) small
+secret_word : (o : Operands) (x : ℕ) → x < 2 ^ 32 → (if either o == 0 then 0 else x) < 2 ^ 32
+secret_word o x small = choice_word (either o == 0) 0 x (omega arith) small
 
 span_word : (x y : ℕ) → span x y < 2 ^ 32
 span_word x y =
@@ -121,29 +120,49 @@ span_word x y =
 unsigned_word : (high mask : ℕ) → mask < 2 ^ 32 → unless_signed high mask < 2 ^ 32
 unsigned_word high mask small = choice_word (nat_lt high 2147483648) mask 4294967295 small (omega arith)
 
-quotient_word : (x y : Bounds) → quotient_range x y < 2 ^ 32
-quotient_word x y = choice_word (y.low == 0) 4294967295 _ (omega arith) (span_word (x.low / y.high) (x.high / y.low))
+upper_word_of : (o : Operands) → upper_range (bounds_of o.v1 o.m1) (bounds_of o.v2 o.m2) < 2 ^ 32
+upper_word_of o =
+    span_word (least o.v1 o.m1 * least o.v2 o.m2 / 2 ^ 32) (greatest o.v1 o.m1 * greatest o.v2 o.m2 / 2 ^ 32)
 
-remainder_word : (mask : ℕ) (x y : Bounds) → mask < 2 ^ 32 → remainder_range mask x y < 2 ^ 32
-remainder_word mask x y small =
-    choice_word (y.low == 0) 4294967295 _ (omega arith)
-    (choice_word (nat_lt x.high y.low) mask _ small (span_word 0 (min x.high (y.high - 1))))
+quotient_word : (o : Operands) → quotient_range (bounds_of o.v1 o.m1) (bounds_of o.v2 o.m2) < 2 ^ 32
+quotient_word o =
+    let quotients = span (least o.v1 o.m1 / greatest o.v2 o.m2) (greatest o.v1 o.m1 / least o.v2 o.m2) in
+    choice_word (least o.v2 o.m2 == 0) 4294967295 quotients (omega arith)
+    (span_word (least o.v1 o.m1 / greatest o.v2 o.m2) (greatest o.v1 o.m1 / least o.v2 o.m2))
+
+remainder_word : (o : Operands) → o.m1 < 2 ^ 32 →
+    remainder_range o.m1 (bounds_of o.v1 o.m1) (bounds_of o.v2 o.m2) < 2 ^ 32
+remainder_word o small =
+    let most = min (greatest o.v1 o.m1) (greatest o.v2 o.m2 - 1) in
+    let below = nat_lt (greatest o.v1 o.m1) (least o.v2 o.m2) in
+    choice_word (least o.v2 o.m2 == 0) 4294967295 (if below then o.m1 else span 0 most) (omega arith)
+    (choice_word below o.m1 (span 0 most) small (span_word 0 most))
+
+product_word : (o : Operands) → AreWords o →
+    product_range (mask_by_table_2 Mul o) (bounds_of o.v1 o.m1) (bounds_of o.v2 o.m2) < 2 ^ 32
+product_word o words =
+    let most = greatest o.v1 o.m1 * greatest o.v2 o.m2 in
+    let products = span (least o.v1 o.m1 * least o.v2 o.m2) most in
+    let small : mask_by_table_2 Mul o < 2 ^ 32 = table_2_word Mul o words in
+    let both : bit_and (mask_by_table_2 Mul o) products ≤ mask_by_table_2 Mul o =
+    and_le_l (mask_by_table_2 Mul o) products in
+    choice_word (nat_lt most (2 ^ 32)) (bit_and (mask_by_table_2 Mul o) products) (mask_by_table_2 Mul o)
+    (omega (arith, both, small)) small
 
 table_3_word : (class : Class) (o : Operands) → AreWords o → mask_by_table_3 class o < 2 ^ 32
-table_3_word Mul o words =
-    let x = bounds_of o.v1 o.m1 in
-    let y = bounds_of o.v2 o.m2 in
-    let small : mask_by_table_2 Mul o < 2 ^ 32 = table_2_word Mul o words in
-    let both : bit_and (mask_by_table_2 Mul o) (span (x.low * y.low) (x.high * y.high)) ≤ mask_by_table_2 Mul o =
-    and_le_l (mask_by_table_2 Mul o) (span (x.low * y.low) (x.high * y.high)) in
-    secret_word o _ (choice_word (nat_lt (x.high * y.high) (2 ^ 32)) _ (mask_by_table_2 Mul o) (omega (arith, both, small)) small)
-table_3_word Mulh o words = secret_word o _ (unsigned_word _ _ (unsigned_word _ _ (span_word _ _)))
-table_3_word Mulhsu o words = secret_word o _ (unsigned_word _ _ (span_word _ _))
-table_3_word Mulhu o words = secret_word o _ (span_word _ _)
-table_3_word Div o words = secret_word o _ (unsigned_word _ _ (unsigned_word _ _ (quotient_word _ _)))
-table_3_word Divu o words = secret_word o _ (quotient_word _ _)
-table_3_word Rem o words = secret_word o _ (unsigned_word _ _ (unsigned_word _ _ (remainder_word o.m1 _ _ words.1)))
-table_3_word Remu o words = secret_word o _ (remainder_word o.m1 _ _ words.1)
+table_3_word Mul o words = secret_word o _ (product_word o words)
+table_3_word Mulh o words =
+    secret_word o _
+    (unsigned_word (greatest o.v1 o.m1) _ (unsigned_word (greatest o.v2 o.m2) _ (upper_word_of o)))
+table_3_word Mulhsu o words = secret_word o _ (unsigned_word (greatest o.v1 o.m1) _ (upper_word_of o))
+table_3_word Mulhu o words = secret_word o _ (upper_word_of o)
+table_3_word Div o words =
+    secret_word o _ (unsigned_word (greatest o.v1 o.m1) _ (unsigned_word (greatest o.v2 o.m2) _ (quotient_word o)))
+table_3_word Divu o words = secret_word o _ (quotient_word o)
+table_3_word Rem o words =
+    secret_word o _
+    (unsigned_word (greatest o.v1 o.m1) _ (unsigned_word (greatest o.v2 o.m2) _ (remainder_word o words.1)))
+table_3_word Remu o words = secret_word o _ (remainder_word o words.1)
 table_3_word Sll o words = range_fits o op.Sll words refl
 table_3_word Srl o words = range_fits o op.Srl words refl
 table_3_word Sra o words = range_fits o op.Sra words refl
