@@ -14,7 +14,7 @@ secrets each. Of secrets of one byte all 256 are run three times, each time with
 chooses by the outputs so far: no more lists of outputs may arise than the bound allows. With --loops all guests are
 loops that come to the same state on several paths, and with --paths each trial has this limit of walks.
 
-The model makes as many walks as the answer takes, at most 500 (200 with --any-public) or what the trial's --paths says.
+The model makes as many walks as the answer takes, at most 500 (300 with --any-public) or what the trial's --paths says.
 Where it finds at most 256 paths it walks each of them too, which must come to the same.
 
 With an executable, its `bound` must answer as the model does, also where a bounded guest's cut lacks one of its points,
@@ -42,7 +42,7 @@ from trial_pairs import tried_pairs
 from verdicts import answer, judge, real_run
 
 ENDINGS = {"exited": "exits", "fault": "is stopped", "break": "breaks a region", "unfinished": "does not exit"}
-MOST_WALKS, FEW_WALKS, EACH_WALKED = 500, 200, 256
+MOST_WALKS, FEW_WALKS, EACH_WALKED = 500, 300, 256
 
 
 def kind_of(bounds):

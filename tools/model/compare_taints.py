@@ -72,10 +72,10 @@ def spoilt(dice, cut, regions):
 def taint_trial(seed):
     """The files of a trial, the words behind `check`, and those of `taint` beside them."""
     dice = random.Random(f"taint {seed}")
-    rules = dice.choice([[], ["--rules", "1"], ["--rules=2"], ["--rules", "2"]])
+    rules = dice.choice([[], ["--rules", "1"], ["--rules=2"], ["--rules", "2"], ["--rules=3"], ["--rules", "3"]])
     is_measured = dice.random() < 0.5
-    made = measured_trial(dice, dice.choice([1, 2])) if is_measured else random_trial(dice.randrange(1 << 40), seed % 2)
-    files, words = made
+    table = dice.choice([1, 2, 3])
+    files, words = measured_trial(dice, table) if is_measured else random_trial(dice.randrange(1 << 40), seed % 2)
     if dice.random() < 0.4:
         regions = read_regions(files["regions"]) if "regions" in files else []
         files["cut"] = spoilt(dice, read_cut(files["cut"]), regions).text().encode()
@@ -152,7 +152,7 @@ def trial_wrongs(seed, executable, counts):
     files, words, rules = taint_trial(seed)
     found, budget = findings(files, words, rules)
     judgements = Command(files, words).judgements()
-    counts.add(found, judgements, 2 if rules and rules[-1].endswith("2") else 1, "regions" in files)
+    counts.add(found, judgements, int(rules[-1][-1]) if rules else 1, "regions" in files)
     wrongs = list(model_wrongs(found, judgements))
     if executable:
         with tempfile.TemporaryDirectory() as path:

@@ -16,9 +16,9 @@ FOUND = "bounded secret {} regions 0 paths {} stopped {} outputs {} bits {}\n"
 
 
 class Loop:
-    """A guest that reads so many secret bytes, or bytes of another input, and decides by the lowest bit of each. `taken`
-    are the words behind the decision 0, and `behind` those after them and behind the decision 1; a byte is in TAKEN, its
-    address in PLACE."""
+    """A guest that reads so many secret bytes, or bytes of another input, and decides by the lowest bit of each.
+    `taken` are the words behind the decision 0, and `behind` those after them and behind the decision 1; a byte is in
+    TAKEN, its address in PLACE."""
 
     def __init__(self, count, taken, behind=(), descriptor=3):
         writer = self.writer = Writer(None, BASE, 0)
