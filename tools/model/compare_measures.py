@@ -1,5 +1,5 @@
 #!/usr/bin/env python3
-"""compare_measures.py [EXECUTABLE] [--first SEED] [--count N] [--rules] [--cut] [--reports]
+"""compare_measures.py [EXECUTABLE] [--first SEED] [--count N] [--rules] [--cut] [--reports] [--table N]
 
 Measures N random trials (400 without the option) from this seed (1 without it) on by the model, by tables 1 and 2 of
 mask rules and a third of them by table 3 too, and checks the model by itself: every measured run must be accepted with
@@ -8,8 +8,8 @@ its own cut and number, and every flow and side must be those of networkx (where
 With an executable, runs its `measure` and `graph` on each trial and compares status and text with those of the model;
 of two certificates the flows may differ, but the one of the program must be verified by the model and by the program's
 own `verify`. Each cut that the program measures is given to its `check` with its own number and secret, and to its
-`migrate`. With --rules and --cut some trials have these options; with --reports the texts of `report` are compared too,
-and now and then that of `trial`.
+`migrate`. With --table all are by this table, and else with --rules some have this option, as with --cut; with
+--reports the texts of `report` are compared too, and now and then that of `trial`.
 
 Prints what the trials had, and last how many agree and differ. The files and words of those that differ are kept in a
 folder that is named; then the status is 1."""
@@ -173,7 +173,10 @@ class Comparison:
     def options_of(self, seed, options):
         """The options of a trial, perhaps with those that are asked for."""
         dice = random.Random(f"options {seed}")
-        for is_asked, name in ((self.words.rules, "--rules"), (self.words.cut, "--cut")):
+        if self.words.table:
+            options = options + [["--rules", str(self.words.table)]]
+        is_any_table = self.words.rules and not self.words.table
+        for is_asked, name in ((is_any_table, "--rules"), (self.words.cut, "--cut")):
             if is_asked and dice.random() < 0.6:
                 options = options + [[name, dice.choice("1233" if name == "--rules" else "122")]]
         return options
@@ -231,6 +234,7 @@ def main():
     parser = parser_of(__doc__)
     for flag in ("--rules", "--cut", "--reports"):
         parser.add_argument(flag, action="store_true")
+    parser.add_argument("--table", type=int, default=0, metavar="N")
     return Comparison(parser.parse_args()).make()
 
 

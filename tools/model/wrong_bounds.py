@@ -4,8 +4,8 @@
 Makes N trials of `bound` (100 without the option) from this seed (1) on, a third as many with `--any-public`, those
 with cuts that lack a point, and those that were made by hand, with models that are wrong in one thing each. Prints for
 each in how many trials the answer is another than that of the right model, and in how many of them the secrets that
-compare_bounds.py tries refute it without the right model. Last it prints how many wrong models were told apart. Python 3
-only."""
+compare_bounds.py tries refute it without the right model. Last it prints how many wrong models were told apart.
+Python 3 only."""
 import argparse
 import collections
 import random
