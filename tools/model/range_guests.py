@@ -10,8 +10,8 @@ ANSWER, BUFFER, COUNT, NUMBER, FIRST, SECOND = 10, 11, 12, 17, 6, 7
 WHERE = 0x80
 MINORS = {name: (major, minor) for major, names in REGISTERS.items() for minor, name in names.items()}
 FOUND = "bounded secret 1 regions 0 paths 1 stopped 0 outputs {} bits {}\n"
-# the bits that are kept of the byte and those that are put beside them, the same of the second operand (or a number),
-# the operation, and how many bits are free
+# the operation; its two operands, each as a number, or as the bits that are kept of the byte and those that are put
+# beside them; and how many bits of the result are free
 OF_A_BYTE = [
     ("divu", (255, 0), 10, 5), ("divu", (255, 0), (2, 1), 8), ("divu", (7, 128), (7, 0), 32),
     ("divu", (15, 192), 10, 3), ("remu", (255, 0), 10, 4), ("remu", (124, 0), 128, 5), ("remu", (124, 0), 64, 6),
