@@ -81,8 +81,8 @@ def checked_guest(dice, seed, turns):
 
 @dataclasses.dataclass(frozen=True)
 class Wanted:
-    """Which trials are wanted: by some tables of the mask rules, of any public input, of guests with loops alone, or with
-    another limit of walks."""
+    """Which trials are wanted: by some tables of the mask rules, of any public input, of guests with loops alone, or
+    with another limit of walks."""
 
     tables: tuple = (1, 2, 3)
     is_any_public: bool = False
@@ -107,7 +107,8 @@ def bound_trial(seed, wanted=Wanted()):
         cut = mended(Task(Image(program), public, regions, cut, table, MOST_BUDGET, limit, paths, is_any_public))
     if dice.random() < 0.15:
         cut = spoilt(dice, cut, regions)
-    budget = dice.choice([cut.bits & 31] * 3 + [max((cut.bits & 31) - 1, 0)] + [MOST_BUDGET] * (30 if is_any_public else 9))
+    enough = [MOST_BUDGET] * (30 if is_any_public else 9)
+    budget = dice.choice([cut.bits & 31] * 3 + [max((cut.bits & 31) - 1, 0)] + enough)
     options = [["--turns", str(limit)], ["--paths", str(paths)]] + [["--regions", "regions"]] * ("regions" in given)
     options += [["--rules", str(table)]] if table > 1 or dice.random() < 0.3 else []
     files = given | {"program": program, "public": public, "cut": cut.text().encode()}

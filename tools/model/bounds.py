@@ -1,9 +1,9 @@
 """All outputs that any secret can give: the replay, walked with masks along every string of bits that can cross a cut.
 
-A walk knows of each register and byte the value of the replay and a mask: the bits that may differ in the run of another
-secret that has come the same way. Of the bits that cross at a visit those outside the mask are the replay's own, those of
-an output are free, and each other one is a choice, the next bit of the path. Where the public input may be any, its bytes
-are walked as zeros with masks too.
+A walk knows of each register and byte the value of the replay and a mask: the bits that may differ in the run of
+another secret that has come the same way. Of the bits that cross at a visit those outside the mask are the replay's own,
+those of an output are free, and each other one is a choice, the next bit of the path. Where the public input may be any,
+its bytes are walked as zeros with masks too.
 
 From one state on everything is the same, but for the turns and the bits that are left. So a walk ends where it comes to
 a state all of whose paths are known, and as many turns and bits are left as the longest of them want."""
@@ -191,8 +191,8 @@ FORMS = {form: getattr(TurnMasks, form) for form in (
 
 class Walk:
     """A walk along a path, 0 behind its last bit: the choices and turns that it made, how many bits crossed, the masks of
-    its output, how many entries and leaves of regions it made, and how it ended: `exited` with a status, `stopped` with a text, or `met` with what is below a state. It
-    may be `Unclear`."""
+    its output, how many entries and leaves of regions it made, and how it ended: `exited` with a status, `stopped` with
+    a text, or `met` with what is below a state. It may be `Unclear`."""
 
     def __init__(self, task, path):
         self.guest = ReplayGuest(task.image, task.walked_public(), bytes(task.cut.secret_length), task.regions)

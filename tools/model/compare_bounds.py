@@ -1,6 +1,6 @@
 #!/usr/bin/env python3
 """compare_bounds.py [EXECUTABLE] [--first SEED] [--count N] [--secrets N] [--any-public] [--loops] [--tables N,..]
-[--paths N]
+[--paths N] [--random]
 
 Bounds the outputs of N random guests (400 without the option) from this seed (1 without it) on, over all secrets, by
 the model, by each table of the mask rules or those named, and before them of some guests that were made by hand. Of the
@@ -12,9 +12,10 @@ not exit. Without regions and stops each must be accepted. The number of outputs
 With --any-public each is bounded with that flag. Then 20 random public inputs of the length are tried, with three
 secrets each. Of secrets of one byte all 256 are run three times, each time with the public input that a random rule
 chooses by the outputs so far: no more lists of outputs may arise than the bound allows. With --loops all guests are
-loops that come to the same state on several paths, and with --paths each trial has this limit of walks.
+loops that come to the same state on several paths, and with --paths each trial has this limit of walks. With --random
+no guest is one that was made by hand.
 
-The model makes as many walks as the answer takes, at most 500 (200 with --any-public) or what the trial's --paths says.
+The model makes as many walks as the answer takes, at most 500 (300 with --any-public) or what the trial's --paths says.
 Where it finds at most 256 paths it walks each of them too, which must come to the same.
 
 With an executable, its `bound` must answer as the model does, also where a bounded guest's cut lacks one of its points,
@@ -42,7 +43,7 @@ from trial_pairs import tried_pairs
 from verdicts import answer, judge, real_run
 
 ENDINGS = {"exited": "exits", "fault": "is stopped", "break": "breaks a region", "unfinished": "does not exit"}
-MOST_WALKS, FEW_WALKS, EACH_WALKED = 500, 200, 256
+MOST_WALKS, FEW_WALKS, EACH_WALKED = 500, 300, 256
 
 
 def kind_of(bounds):
@@ -65,7 +66,7 @@ def is_many(bounds):
 
 
 def is_limited(task, status, text):
-    """Whether a text says that the walks were not enough, with a string at which a path begins and one is left behind."""
+    """Whether a text says that the walks were not enough, with a string at which a path begins and one is left."""
     words = text.split()
     if status != 1 or words[:2] != ["unclear", "path"] or words[5:] != ["paths", str(task.paths)]:
         return False
@@ -194,7 +195,8 @@ class Comparison:
 
     def make(self):
         """Makes all trials; the status."""
-        by_hand, words = self.by_hand(), self.words
+        words = self.words
+        by_hand = [] if words.random else self.by_hand()
         for name, files, line, expected in by_hand:
             self.try_trial(name, files, line, expected)
         wanted = Wanted(words.tables, words.any_public, words.loops, words.paths)
@@ -217,8 +219,8 @@ def main():
     parser.add_argument("--secrets", type=int, default=50, metavar="N")
     parser.add_argument("--tables", type=table_numbers, default=(1, 2, 3), metavar="N,..")
     parser.add_argument("--paths", type=int, default=0, metavar="N")
-    parser.add_argument("--any-public", action="store_true")
-    parser.add_argument("--loops", action="store_true")
+    for flag in ("--any-public", "--loops", "--random"):
+        parser.add_argument(flag, action="store_true")
     return Comparison(parser.parse_args()).make()
 
 

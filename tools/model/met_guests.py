@@ -3,6 +3,7 @@ the secret, with the answer of `bound` to each, worked out by hand; and random o
 from cuts import Cut
 from kept_guests import region_text
 from program_files import BASE, plain_file
+from trial_cuts import joined
 from words import AND, EBREAK, ECALL, LOAD, XOR, Writer, immediate_word, jump_word, register_word, store_word
 from worked_trial import number_word
 
@@ -16,9 +17,9 @@ FOUND = "bounded secret {} regions 0 paths {} stopped {} outputs {} bits {}\n"
 
 
 class Loop:
-    """A guest that reads so many secret bytes, or bytes of another input, and decides by the lowest bit of each. `taken`
-    are the words behind the decision 0, and `behind` those after them and behind the decision 1; a byte is in TAKEN, its
-    address in PLACE."""
+    """A guest that reads so many secret bytes, or bytes of another input, and decides by the lowest bit of each.
+    `taken` are the words behind the decision 0, and `behind` those after them and behind the decision 1; a byte is in
+    TAKEN, its address in PLACE."""
 
     def __init__(self, count, taken, behind=(), descriptor=3):
         writer = self.writer = Writer(None, BASE, 0)
@@ -161,7 +162,7 @@ def random_words(dice):
 def random_masks(dice):
     """The masks of a point: most visits let the bit cross."""
     runs = [(dice.randint(1, 6), dice.choice([1, 1, 1, 0])) for _ in range(dice.randrange(3))]
-    return runs, [(1, dice.choice([1, 1, 1, 1, 0]))]
+    return joined(runs), [(1, dice.choice([1, 1, 1, 1, 0]))]
 
 
 def loop_trial(dice, turns, paths, table, is_any_public=False):

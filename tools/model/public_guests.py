@@ -1,5 +1,5 @@
-"""Random programs that read public bytes beside secret ones, and guests with the answer of `bound --any-public` to each,
-worked out by hand."""
+"""Random programs that read public bytes beside secret ones, and guests with the answer of `bound --any-public` to
+each, worked out by hand."""
 from carriers import SHOWN, TAKEN
 from cuts import Cut
 from instructions import ALL
@@ -57,7 +57,8 @@ def guessing_program(dice):
 
 def read_words(descriptor, offset):
     """Reads one byte of an input."""
-    words = [number_word(ANSWER, descriptor), WHERE << 12 | BUFFER << 7 | 0x37, immediate_word(0, BUFFER, BUFFER, offset)]
+    words = [number_word(ANSWER, descriptor), WHERE << 12 | BUFFER << 7 | 0x37]
+    words.append(immediate_word(0, BUFFER, BUFFER, offset))
     return [*words, number_word(COUNT, 1), number_word(NUMBER, 63), ECALL]
 
 
@@ -85,15 +86,40 @@ def guess_words(writer):
     return decision
 
 
+def met_guest():
+    """Decides by a bit of the secret whether the public byte becomes the secret one, and by a bit of it how to exit.
+    Behind the first decision both paths have the same state. The file, and the points of both decisions."""
+    writer, points = begin(), {}
+    for byte, words in ((SECRET_BYTE, [immediate_word(0, PUBLIC_BYTE, SECRET_BYTE, 0)]), (PUBLIC_BYTE, None)):
+        writer.put(number_word(ANSWER, 0), immediate_word(7, TAKEN, byte, 1))
+        points[0, writer.here, "de"] = [], [(1, 1)]
+        label = writer.put_branch(0, TAKEN, 0)
+        writer.put(*(words or [number_word(ANSWER, 1)]))
+        writer.place(label)
+    return finish(writer), points
+
+
+def over_trial():
+    """A public byte that is read over a secret one, without the flag."""
+    writer = Writer(None, BASE, 0)
+    writer.put(*read_words(3, 0), *read_words(0, 0), immediate_word(4, ANSWER, BUFFER, 0, LOAD))
+    text = FOUND.format(1, "", 1, 0, 1, 0).replace("public  ", "")
+    name, files, words, text = trial("public-over-secret", finish(writer), b"\x41", 0, {}, text)
+    return name, files, [word for word in words if word != "--any-public"], text
+
+
 def trial(name, file, public, budget, points, text, *options):
     """A trial: its name, its files, its words and the answer."""
     files = {"program": file, "public": public, "cut": Cut(1, budget, [], points).text().encode()}
-    return name, files, ["bound", "program", "public", "cut", str(budget), "--paths=300", "--any-public", *options], text
+    words = ["bound", "program", "public", "cut", str(budget), "--any-public", *options]
+    words += [] if options else ["--paths=300"]
+    return name, files, words, text
 
 
 def public_trials():
-    """The trials: a guess, also of a byte that is not there, an echo, and public bits that nothing lets cross."""
-    guess, echo = begin(), begin()
+    """The trials: a guess, also of a byte that is not there, an echo, public bits that nothing lets cross, three walks
+    for four paths, and a public byte that is not any."""
+    guess, echo, (met, decisions) = begin(), begin(), met_guest()
     decision = guess_words(guess)
     file, decides = finish(guess), {(0, decision, "de"): ([], [(1, 1)])}
     echo.put(immediate_word(0, ANSWER, PUBLIC_BYTE, 0))
@@ -109,4 +135,6 @@ def public_trials():
         trial("public-echo", shown, b"\x41", 8, status, FOUND.format(1, 1, 1, 0, 256, 8)),
         trial("public-echo-of-none", shown, b"", 8, status, FOUND.format(1, 0, 1, 0, 1, 0)),
         trial("public-echo-nowhere", shown, b"\x41", 8, {}, unseen),
+        trial("public-met", met, b"\x41", 2, decisions, FOUND.format(1, 1, 4, 0, 2, 1), "--paths=3", "--rules=2"),
+        over_trial(),
     ]

@@ -1,5 +1,5 @@
-"""Guests that compute one thing of a secret byte, with the answer of `bound` by table 3 of the mask rules to each, worked
-out by hand."""
+"""Guests that compute one thing of a secret byte, with the answer of `bound` by table 3 of the mask rules to each,
+worked out by hand."""
 from cuts import Cut
 from instructions import REGISTERS
 from program_files import BASE, plain_file
@@ -10,17 +10,18 @@ ANSWER, BUFFER, COUNT, NUMBER, FIRST, SECOND = 10, 11, 12, 17, 6, 7
 WHERE = 0x80
 MINORS = {name: (major, minor) for major, names in REGISTERS.items() for minor, name in names.items()}
 FOUND = "bounded secret 1 regions 0 paths 1 stopped 0 outputs {} bits {}\n"
-# the bits that are kept of the byte and those that are put beside them, the same of the second operand (or a number),
-# the operation, and how many bits are free
+# the operation; its two operands, each as a number, or as the bits that are kept of the byte and those that are put
+# beside them; and how many bits of the result are free
 OF_A_BYTE = [
-    ("divu", (255, 0), 10, 5), ("divu", (255, 0), (2, 1), 8), ("divu", (7, 128), (7, 0), 32), ("divu", (15, 192), 10, 3),
-    ("remu", (255, 0), 10, 4), ("remu", (124, 0), 128, 5), ("remu", (124, 0), 64, 6), ("remu", (15, 0), (7, 0), 32),
-    ("remu", (15, 0), (7, 16), 4), ("rem", (255, 0), 4, 2), ("rem", (15, -16), 4, 32), ("div", (255, 0), 2, 7),
-    ("div", (15, -16), 2, 32), ("div", (15, 64), -2, 32), ("mul", (255, 0), 10, 11), ("mul", (255, 0), (255, 0), 16),
-    ("mul", (15, 0), -2, 31), ("mulhu", (255, 0), -1, 8), ("mulhu", (15, -16), 16, 0), ("mulhu", (15, -16), -1, 5),
-    ("mulh", (255, 0), 2, 0), ("mulh", (15, -16), 2, 32), ("mulh", (15, 0), -2, 32), ("mulhsu", (255, 0), -1, 8),
-    ("mulhsu", (15, -16), 2, 32), ("sll", 1, (3, 0), 4), ("sll", (1, 2), (1, 0), 3), ("srl", 128, (3, 0), 4),
-    ("srl", (255, 0), (1, 0), 8), ("sra", -8, (3, 0), 3), ("sra", -128, (4, 0), 4), ("sra", (15, 0), (4, 0), 4),
+    ("divu", (255, 0), 10, 5), ("divu", (255, 0), (2, 1), 8), ("divu", (7, 128), (7, 0), 32),
+    ("divu", (15, 192), 10, 3), ("remu", (255, 0), 10, 4), ("remu", (124, 0), 128, 5), ("remu", (124, 0), 64, 6),
+    ("remu", (15, 0), (7, 0), 32), ("remu", (15, 0), (7, 16), 4), ("rem", (255, 0), 4, 2), ("rem", (15, -16), 4, 32),
+    ("div", (255, 0), 2, 7), ("div", (15, -16), 2, 32), ("div", (15, 64), -2, 32), ("mul", (255, 0), 10, 11),
+    ("mul", (255, 0), (255, 0), 16), ("mul", (15, 0), -2, 31), ("mul", (1, -16), 2, 31), ("mulhu", (255, 0), -1, 8),
+    ("mulhu", (15, -16), 16, 0), ("mulhu", (15, -16), -1, 5), ("mulh", (255, 0), 2, 0), ("mulh", (15, -16), 2, 32),
+    ("mulh", (15, 0), -2, 32), ("mulhsu", (255, 0), -1, 8), ("mulhsu", (15, -16), 2, 32), ("sll", 1, (3, 0), 4),
+    ("sll", (1, 2), (1, 0), 3), ("srl", 128, (3, 0), 4), ("srl", (255, 0), (1, 0), 8), ("sra", -8, (3, 0), 3),
+    ("sra", -128, (4, 0), 4), ("sra", (15, 0), (4, 0), 4),
 ]
 
 

@@ -47,7 +47,7 @@ def random_budget(dice, needs):
 
 
 def random_guest(dice, is_carrying=False, make=None, lengths=None):
-    """A program with its files, regions and limit, and the real runs of its secrets, which have one of these lengths."""
+    """A program with its files, regions and limit, and the real runs of its secrets, which have one of some lengths."""
     while True:
         is_forked = dice.random() < 0.35
         usual = carrying_program if is_carrying else forked_program if is_forked else usual_program
