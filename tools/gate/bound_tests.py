@@ -27,7 +27,7 @@ sys.path[:0] = [os.path.join(TOOLS, name) for name in ("", "explain", "model", "
 from answering import Program
 from bound_words import bounded_lines, unclear_lines
 from bounding import Bounding, NoBound, found
-from compare_bounds import bound_trial
+from bound_trials import bound_trial
 from cuts import read_cut
 from elf_symbols import ProgramFile
 from guest_folder import GuestFolder

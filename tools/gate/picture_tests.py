@@ -22,8 +22,8 @@ sys.path[:0] = [TOOLS, os.path.join(TOOLS, "guests")]
 import explain
 from answering import Program
 from bound_page import MOST_OUTPUTS, Bounded, bound_page
+from bound_trials import bound_trial
 from bounds import Walk, behind
-from compare_bounds import bound_trial
 from compare_manys import many_trial
 from compare_taints import taint_trial
 from cuts import places_of, read_cut

@@ -1,22 +1,24 @@
 """All outputs that any secret can give: the replay, walked with masks along every string of bits that can cross a cut.
 
-A walk knows of each register and byte the value of the replay and a mask: the bits that may differ in the run of another
-secret that has come the same way. Of the bits that cross at a visit those outside the mask are the replay's own, those of
-an output are free, and each other one is a choice, the next bit of the path. Where the public input may be any, its bytes
-are walked as zeros with masks too.
+A walk knows of each register and byte the value of the replay and a mask: the bits that may differ in the run of
+another secret that has come the same way. Of the bits that cross at a visit those outside the mask are the replay's own,
+those of an output are free, and each other one is a choice, the next bit of the path. Where the public input may be any,
+its bytes are walked as zeros with masks too.
 
 From one state on everything is the same, but for the turns and the bits that are left. So a walk ends where it comes to
 a state all of whose paths are known, and as many turns and bits are left as the longest of them want."""
+import collections
+
 from cuts import VisitMasks, places_of, slot_width
 from guest import BREAK, EXIT, EXIT_GROUP, READ, SECRET, WRITE
 from guest import GuestExit, GuestFault, ReplayGuest, ReplayStop, shown
 from instructions import ALL, WIDTHS, decode
 from rules import loaded_mask, result_mask
-from states import Below, Place, copied, fits, repeating
+from states import Below, Known, Place, copied, fits, meetings_of, repeating
 from verdicts import walk
 
 MOST_BYTES, MOST_SHOWN = 67_108_864, 1 << 64
-ANSWER, NUMBER = 10, 17
+ANSWER, NUMBER, PUBLIC_MASK = 10, 17, 255
 IMPLICIT = ("ad", "de", "nr", "a0", "a1", "a2", "ou", "st")
 
 
@@ -189,14 +191,14 @@ FORMS = {form: getattr(TurnMasks, form) for form in (
 
 class Walk:
     """A walk along a path, 0 behind its last bit: the choices and turns that it made, how many bits crossed, the masks of
-    its output, and how it ended: `exited` with a status, `stopped` with a text, or `met` with what is below a state. It
-    may be `Unclear`."""
+    its output, how many entries and leaves of regions it made, and how it ended: `exited` with a status, `stopped` with
+    a text, or `met` with what is below a state. It may be `Unclear`."""
 
     def __init__(self, task, path):
-        self.guest = ReplayGuest(task.image, task.public, bytes(task.cut.secret_length), task.regions)
+        self.guest = ReplayGuest(task.image, task.walked_public(), bytes(task.cut.secret_length), task.regions)
         self.cut_masks = VisitMasks(task.cut)
-        self.masks = TurnMasks(task.table, self.guest, 255 if task.is_any_public else 0)
-        self.task, self.path, self.choices, self.crossed, self.free = task, path, [], 0, []
+        self.masks = TurnMasks(task.table, self.guest, PUBLIC_MASK if task.is_any_public else 0)
+        self.task, self.path, self.choices, self.crossed, self.free, self.regions = task, path, [], 0, [], 0
         self.made, self.ending, self.unclear = 0, None, None
         self.repeating = {point: repeating(*masks) for point, masks in task.cut.points.items()}
         self.addresses = {address for _, address, slot in task.cut.points if slot not in ("ou", "st")}
@@ -235,6 +237,7 @@ class Walk:
         """Makes one turn."""
         self.made += 1
         guest, task = self.guest, self.task
+        self.regions += guest.kind() != "step"
         is_skipped = guest.kind() == "enter" and guest.by_enter[guest.pc].number in task.cut.skip
         masks = self.masks.turn(is_skipped)
         try:
@@ -293,13 +296,16 @@ class Walk:
 
 
 class Task:
-    """What is walked: a program on its public input, or on zeros in the place of any of that length, its regions, a cut,
-    the table of the rules, and the limits."""
+    """What is walked: a program on its public input, or on any of that length, its regions, a cut, the table of the
+    rules, and the limits."""
 
     def __init__(self, image, public, regions, cut, table, budget, turns, paths, is_any_public=False):
-        self.image, self.regions, self.cut, self.table = image, regions, cut, table
-        self.public, self.is_any_public = bytes(len(public)) if is_any_public else public, is_any_public
-        self.budget, self.turns, self.paths = budget, turns, paths
+        self.image, self.public, self.regions, self.cut, self.table = image, public, regions, cut, table
+        self.budget, self.turns, self.paths, self.is_any_public = budget, turns, paths, is_any_public
+
+    def walked_public(self):
+        """The public input of the walks: zeros where it may be any."""
+        return bytes(len(self.public)) if self.is_any_public else self.public
 
     def lengths(self):
         """The number of secret bytes, and of public ones where these may be any, as a headline has them."""
@@ -345,11 +351,12 @@ class Bounds:
     """The paths of a task: how many there are, how many stop, the first that does, and the patterns in the order in which
     they were found with the bytes that they have together, the choices of the last walk and of the first path that stops;
     or the text of what is unclear, and how many paths there are up to that one, or at least. At most so many walks are
-    made, those of the task without a number; without `is_meeting` each path is walked from the start."""
+    made, those of the task without a number; without `is_meeting` each path is walked from the start. `meetings` counts
+    the states that walks come to again, by kind."""
 
     def __init__(self, task, most=None, is_meeting=True):
         self.task, self.most, self.is_meeting = task, most or task.paths, is_meeting
-        self.walks, self.met, self.paths, self.stopped, self.first = 0, 0, 0, 0, None
+        self.walks, self.meetings, self.paths, self.stopped, self.first = 0, collections.Counter(), 0, 0, None
         self.patterns, self.size, self.unclear, self.last, self.stopped_at = {}, 0, None, [], None
         self.open, self.known, path = [], {}, []
         while path is not None and not self.unclear:
@@ -374,10 +381,11 @@ class Bounds:
         place = Place(walk)
         if self.open and len(self.open[-1].walk.choices) == len(walk.choices):
             self.open.pop()
-        below = self.known.get(place.state)
-        if below and fits(walk, below):
-            self.met += 1
-            return below
+        known = self.known.get(place.state)
+        if known:
+            self.meetings.update(meetings_of(walk, known, fits(walk, known.below)))
+        if known and fits(walk, known.below):
+            return known.below
         self.open.append(place)
         return None
 
@@ -386,7 +394,7 @@ class Bounds:
         while self.open and len(self.open[-1].walk.choices) >= length:
             place = self.open.pop()
             if place.is_known:
-                self.known[place.state] = place.below()
+                self.known[place.state] = Known(place.below(), place.walk.made, place.walk.crossed)
 
     def add(self, ended):
         """Adds what a walk has come to; a reason where the patterns have too many bytes."""

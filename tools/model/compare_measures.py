@@ -1,15 +1,15 @@
 #!/usr/bin/env python3
-"""compare_measures.py [EXECUTABLE] [--first SEED] [--count N] [--rules] [--cut] [--reports]
+"""compare_measures.py [EXECUTABLE] [--first SEED] [--count N] [--rules] [--cut] [--reports] [--table N]
 
-Measures N random trials (400 without the option) from this seed (1 without it) on by the model, by both tables of mask
-rules, and checks the model by itself: every measured run must be accepted with its own cut and number, and every flow
-and side must be those of networkx (where Python has it) and verified.
+Measures N random trials (400 without the option) from this seed (1 without it) on by the model, by tables 1 and 2 of
+mask rules and a third of them by table 3 too, and checks the model by itself: every measured run must be accepted with
+its own cut and number, and every flow and side must be those of networkx (where Python has it) and verified.
 
 With an executable, runs its `measure` and `graph` on each trial and compares status and text with those of the model;
 of two certificates the flows may differ, but the one of the program must be verified by the model and by the program's
 own `verify`. Each cut that the program measures is given to its `check` with its own number and secret, and to its
-`migrate`. With --rules and --cut some trials have these options; with --reports the texts of `report` are compared too,
-and now and then that of `trial`.
+`migrate`. With --table all are by this table, and else with --rules some have this option, as with --cut; with
+--reports the texts of `report` are compared too, and now and then that of `trial`.
 
 Prints what the trials had, and last how many agree and differ. The files and words of those that differ are kept in a
 folder that is named; then the status is 1."""
@@ -139,9 +139,10 @@ class Counts:
 
 
 class Narrowing:
-    """How much less table 2 lets flow than table 1."""
+    """How much less a table lets flow than the one before it."""
 
-    def __init__(self):
+    def __init__(self, table):
+        self.table = table
         self.both, self.fewer, self.wide_bits, self.saved, self.most, self.alone = 0, 0, 0, 0, 0, 0
 
     def add(self, wide, narrow):
@@ -157,7 +158,7 @@ class Narrowing:
 
     def show(self):
         """Prints the counts."""
-        print(f"of {self.both} runs that both tables measure, table 2 gives fewer bits to {self.fewer}: "
+        print(f"of {self.both} runs that both tables measure, table {self.table} gives fewer bits to {self.fewer}: "
               f"{self.saved} of {self.wide_bits} bits less, at most {self.most} of one run; "
               f"it alone measures {self.alone}")
 
@@ -166,15 +167,18 @@ class Comparison:
     """A comparison of trials."""
 
     def __init__(self, words):
-        self.words, self.counts, self.differing = words, {1: Counts(), 2: Counts()}, Differing("measures")
-        self.narrowing = Narrowing()
+        self.words, self.counts = words, {table: Counts() for table in (1, 2, 3)}
+        self.differing, self.narrowing = Differing("measures"), {table: Narrowing(table) for table in (2, 3)}
 
     def options_of(self, seed, options):
         """The options of a trial, perhaps with those that are asked for."""
         dice = random.Random(f"options {seed}")
-        for is_asked, name in ((self.words.rules, "--rules"), (self.words.cut, "--cut")):
+        if self.words.table:
+            options = options + [["--rules", str(self.words.table)]]
+        is_any_table = self.words.rules and not self.words.table
+        for is_asked, name in ((is_any_table, "--rules"), (self.words.cut, "--cut")):
             if is_asked and dice.random() < 0.6:
-                options = options + [[name, dice.choice("122")]]
+                options = options + [[name, dice.choice("1233" if name == "--rules" else "122")]]
         return options
 
     def measured(self, files, options, table):
@@ -189,15 +193,18 @@ class Comparison:
         files, options = measure_trial(seed)
         options = self.options_of(seed, options)
         words, guest, texts = measure_words(seed, options), Guest(files, options), []
-        results = {table: self.measured(files, options, table) for table in (1, 2)}
+        asked = int(dict(options).get("--rules", 1))
+        tables = (1, 2, 3) if asked == 3 or seed % 3 == 0 else (1, 2)
+        results = {table: self.measured(files, options, table) for table in tables}
         for table, measured in results.items():
             self.counts[table].add(measured)
             if not isinstance(measured, str):
                 texts += [f"table {table}: {text}" for text in wrongs(guest, measured, seed % THOROUGH_EACH == 0)]
-        texts += narrowing_wrongs(results[1], results[2])
-        self.narrowing.add(results[1], results[2])
+        for table in tables[1:]:
+            texts += narrowing_wrongs(results[table - 1], results[table], table)
+            self.narrowing[table].add(results[table - 1], results[table])
         if self.words.executable:
-            measured = results[int(dict(options).get("--rules", 1))]
+            measured = results[asked]
             with tempfile.TemporaryDirectory() as path:
                 folder = Folder(self.words.executable, path, files)
                 texts += program_wrongs(folder, guest, measured, dict(options), words, self.words.reports)
@@ -216,7 +223,8 @@ class Comparison:
         for table, counts in self.counts.items():
             print(f"by table {table}:")
             counts.show()
-        self.narrowing.show()
+        for narrowing in self.narrowing.values():
+            narrowing.show()
         print(f"{1000 * (time.monotonic() - begin) / max(self.words.count, 1):.0f} milliseconds for each trial")
         return self.differing.show(self.words.count)
 
@@ -226,6 +234,7 @@ def main():
     parser = parser_of(__doc__)
     for flag in ("--rules", "--cut", "--reports"):
         parser.add_argument(flag, action="store_true")
+    parser.add_argument("--table", type=int, default=0, metavar="N")
     return Comparison(parser.parse_args()).make()
 
 

@@ -1,10 +1,11 @@
 #!/usr/bin/env python3
-"""compare_taints.py [EXECUTABLE] [--first SEED] [--count N]
+"""compare_taints.py [EXECUTABLE] [--first SEED] [--count N] [--table N]
 
 Looks at the secrets of N random trials (400 without the option) from this seed (1 without it) on with one machine, by
-the model. Half of the cuts are those of the trials of `check`, half are measured of the first secret. Each clean secret
-must be accepted by the model of `check` with the same bits and output. With an executable, its `taint` must answer as
-the model does, and its `check` must accept each clean secret with the same bits and output.
+the model, by any table of mask rules or by the one that is named. Half of the cuts are those of the trials of `check`,
+half are measured of the first secret. Each clean secret must be accepted by the model of `check` with the same bits and
+output. With an executable, its `taint` must answer as the model does, and its `check` must accept each clean secret
+with the same bits and output.
 
 Prints how many secrets had each finding and reason and how many let bits cross at each slot, and last how many trials
 agree and differ. The files and words of those that differ are kept in a folder that is named; then the status is 1."""
@@ -69,13 +70,14 @@ def spoilt(dice, cut, regions):
     return cut
 
 
-def taint_trial(seed):
-    """The files of a trial, the words behind `check`, and those of `taint` beside them."""
+def taint_trial(seed, wanted=0):
+    """The files of a trial, the words behind `check`, and those of `taint` beside them; perhaps by a wanted table."""
     dice = random.Random(f"taint {seed}")
-    rules = dice.choice([[], ["--rules", "1"], ["--rules=2"], ["--rules", "2"]])
+    rules = dice.choice([[], ["--rules", "1"], ["--rules=2"], ["--rules", "2"], ["--rules=3"], ["--rules", "3"]])
     is_measured = dice.random() < 0.5
-    made = measured_trial(dice, dice.choice([1, 2])) if is_measured else random_trial(dice.randrange(1 << 40), seed % 2)
-    files, words = made
+    rules = ["--rules", str(wanted)] if wanted else rules
+    table = wanted or dice.choice([1, 2, 3])
+    files, words = measured_trial(dice, table) if is_measured else random_trial(dice.randrange(1 << 40), seed % 2)
     if dice.random() < 0.4:
         regions = read_regions(files["regions"]) if "regions" in files else []
         files["cut"] = spoilt(dice, read_cut(files["cut"]), regions).text().encode()
@@ -147,12 +149,12 @@ def program_wrongs(folder, found, budget, words, rules):
             yield f"check of clean secret {number}: {lines}"
 
 
-def trial_wrongs(seed, executable, counts):
+def trial_wrongs(seed, executable, counts, table=0):
     """The files and words of a trial, and what is wrong with it."""
-    files, words, rules = taint_trial(seed)
+    files, words, rules = taint_trial(seed, table)
     found, budget = findings(files, words, rules)
     judgements = Command(files, words).judgements()
-    counts.add(found, judgements, 2 if rules and rules[-1].endswith("2") else 1, "regions" in files)
+    counts.add(found, judgements, int(rules[-1][-1]) if rules else 1, "regions" in files)
     wrongs = list(model_wrongs(found, judgements))
     if executable:
         with tempfile.TemporaryDirectory() as path:
@@ -164,7 +166,7 @@ def compare(words):
     """Compares the trials; the status."""
     counts, differing = Counts(), Differing("taints")
     for seed in seeds_of(words):
-        files, command, wrongs = trial_wrongs(seed, words.executable, counts)
+        files, command, wrongs = trial_wrongs(seed, words.executable, counts, words.table)
         if wrongs:
             differing.keep(seed, files, command, wrongs)
     counts.show()
@@ -173,7 +175,9 @@ def compare(words):
 
 def main():
     """Reads the words of the command."""
-    return compare(parser_of(__doc__).parse_args())
+    parser = parser_of(__doc__)
+    parser.add_argument("--table", type=int, default=0, metavar="N")
+    return compare(parser.parse_args())
 
 
 if __name__ == "__main__":

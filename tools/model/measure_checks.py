@@ -63,10 +63,11 @@ def wrongs(guest, measured, is_thorough):
     return itertools.chain(cut_wrongs(guest, measured, is_thorough), flow_wrongs(measured))
 
 
-def narrowing_wrongs(wide, narrow):
-    """What is wrong with what table 2 makes of a run beside what table 1 makes of it; each may be a refusal's text."""
+def narrowing_wrongs(wide, narrow, table):
+    """What is wrong with what a table makes of a run beside what the one before makes of it; each may be a refusal's
+    text."""
     if isinstance(narrow, str):
         if not isinstance(wide, str):
-            yield "table 2 is refused, table 1 is not"
+            yield f"table {table} is refused, table {table - 1} is not"
     elif not isinstance(wide, str) and narrow.bits > wide.bits:
-        yield "table 2 lets more bits flow"
+        yield f"table {table} lets more bits flow"

@@ -3,6 +3,7 @@ the secret, with the answer of `bound` to each, worked out by hand; and random o
 from cuts import Cut
 from kept_guests import region_text
 from program_files import BASE, plain_file
+from trial_cuts import joined
 from words import AND, EBREAK, ECALL, LOAD, XOR, Writer, immediate_word, jump_word, register_word, store_word
 from worked_trial import number_word
 
@@ -16,13 +17,14 @@ FOUND = "bounded secret {} regions 0 paths {} stopped {} outputs {} bits {}\n"
 
 
 class Loop:
-    """A guest that reads so many secret bytes and decides by the lowest bit of each. `taken` are the words behind the
-    decision 0, and `behind` those after them and behind the decision 1; a byte is in TAKEN, its address in PLACE."""
+    """A guest that reads so many secret bytes, or bytes of another input, and decides by the lowest bit of each.
+    `taken` are the words behind the decision 0, and `behind` those after them and behind the decision 1; a byte is in
+    TAKEN, its address in PLACE."""
 
-    def __init__(self, count, taken, behind=()):
+    def __init__(self, count, taken, behind=(), descriptor=3):
         writer = self.writer = Writer(None, BASE, 0)
         self.count = count
-        writer.put(number_word(ANSWER, 3), DATA << 12 | BUFFER << 7 | 0x37, number_word(COUNT, count))
+        writer.put(number_word(ANSWER, descriptor), DATA << 12 | BUFFER << 7 | 0x37, number_word(COUNT, count))
         writer.put(number_word(NUMBER, 63), ECALL, number_word(ONE, 1), immediate_word(0, PLACE, BUFFER, 0))
         writer.put(immediate_word(0, LAST, BUFFER, count))
         begin = writer.here
@@ -160,17 +162,19 @@ def random_words(dice):
 def random_masks(dice):
     """The masks of a point: most visits let the bit cross."""
     runs = [(dice.randint(1, 6), dice.choice([1, 1, 1, 0])) for _ in range(dice.randrange(3))]
-    return runs, [(1, dice.choice([1, 1, 1, 1, 0]))]
+    return joined(runs), [(1, dice.choice([1, 1, 1, 1, 0]))]
 
 
-def loop_trial(dice, turns, paths, table):
-    """The files and words of a random trial."""
-    loop = Loop(dice.randint(2, 12), random_words(dice), random_words(dice))
+def loop_trial(dice, turns, paths, table, is_any_public=False):
+    """The files and words of a random trial; where the public input may be any, the loop may read that."""
+    descriptor = 0 if is_any_public and dice.random() < 0.5 else 3
+    loop = Loop(dice.randint(2, 12), random_words(dice), random_words(dice), descriptor)
     file = loop.finish(*([EBREAK] if dice.random() < 0.05 else []))
     points = loop.point() if dice.random() < 0.7 else {(0, loop.decision, "de"): random_masks(dice)}
     crossed = [loop.writer.code + 4 * index for index, word in enumerate(loop.writer.words) if word == CROSSED[0]]
     points |= {(0, address, "rs"): random_masks(dice) for address in crossed if dice.random() < 0.8}
     turns = turns if dice.random() < 0.6 else 8 + 10 * loop.count + dice.randrange(30)
     budget = dice.choice([100, 100, loop.count, loop.count + dice.randrange(8)])
-    options = [f"--turns={turns}", f"--paths={paths}", f"--rules={table}"]
-    return trial("", loop, file, points, budget, None, *options)[1:3]
+    options = [f"--turns={turns}", f"--paths={paths}", f"--rules={table}", *["--any-public"] * is_any_public]
+    files, words = trial("", loop if descriptor else 1, file, points, budget, None, *options)[1:3]
+    return files | {"public": b"" if descriptor else bytes(loop.count)}, words

@@ -1,8 +1,8 @@
 """The mask rules: which bits of a result may change with the secret bits of its two operands.
 
 A rule takes each operand as its value and its mask (v1, m1, v2, m2) and gives the mask of the result. Table 2 has rules
-of its own for six classes, and those of table 1 for the others. Table 3 has rules of its own for eleven, by the least and
-the greatest that each operand can be as a number without a sign, and those of table 2 for the others."""
+of its own for six classes, and those of table 1 for the others. Table 3 has rules of its own for eleven, by the least
+and the greatest that each operand can be as a number without a sign, and those of table 2 for the others."""
 from instructions import ALL, sign_extended, signed
 
 TOP = 0x80000000

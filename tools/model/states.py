@@ -63,6 +63,7 @@ def visits_part(walk):
 
 PARTS = [guest_part, masks_part, shown_part, entry_part, visits_part]
 Below = collections.namedtuple("Below", "paths stopped turns bits")
+Known = collections.namedtuple("Known", "below made crossed")
 
 
 class Place:
@@ -94,3 +95,27 @@ def is_late(walk):
 def fits(walk, below):
     """Whether as many turns and bits are left as are wanted below a state."""
     return walk.made + below.turns <= walk.task.turns and walk.crossed + below.bits <= walk.task.budget
+
+
+def beside(left, first):
+    """How much is left beside what was left where the state was known first."""
+    return "as many" if left == first else "fewer" if left < first else "more"
+
+
+def meetings_of(walk, known, is_met):
+    """Of a walk that has come to a known state: of which kinds that is, and why it is not met where it is not."""
+    below, task = known.below, walk.task
+    turns, bits = task.turns - walk.made - below.turns, task.budget - walk.crossed - below.bits
+    if not is_met:
+        yield "not met"
+        yield from ["not met with too few turns left"] * (turns < 0)
+        yield from ["not met with too few bits left"] * (bits < 0)
+        return
+    yield "met"
+    yield f"met with {beside(-walk.made, -known.made)} turns left"
+    yield f"met with {beside(-walk.crossed, -known.crossed)} bits left"
+    yield from ["met with just enough turns left"] * (turns == 0)
+    yield from ["met with just enough bits left"] * (bits == 0)
+    yield from ["met with stops below"] * bool(below.stopped)
+    yield from ["met inside a region"] * (walk.guest.entered is not None)
+    yield from ["met behind a region"] * (walk.regions > 0 and walk.guest.entered is None)

@@ -46,14 +46,14 @@ def random_budget(dice, needs):
     return min(MOST_BUDGET, dice.choice(enough + [need, max(need - 1, 0), dice.randint(0, need), 0]))
 
 
-def random_guest(dice, is_carrying=False, make=None):
-    """A program with its files, regions and limit, and the real runs of its secrets."""
+def random_guest(dice, is_carrying=False, make=None, lengths=None):
+    """A program with its files, regions and limit, and the real runs of its secrets, which have one of some lengths."""
     while True:
         is_forked = dice.random() < 0.35
         usual = carrying_program if is_carrying else forked_program if is_forked else usual_program
         program, file = random_program(dice, make or usual)
         image, public = Image(file), random_bytes(dice, dice.choice([0, 0, 1, 4, 8]))
-        secrets = random_secrets(dice, is_forked, LONG_LENGTHS if is_carrying else LENGTHS)
+        secrets = random_secrets(dice, is_forked, lengths or (LONG_LENGTHS if is_carrying else LENGTHS))
         regions = random_regions(dice, program, image, public, secrets)
         reals = [real_run(image, public, secret, regions, TRIED_TURNS) for secret in secrets]
         limit = random_limit(dice, reals)

@@ -1,26 +1,31 @@
 #!/usr/bin/env python3
 """wrong_bounds.py [--first SEED] [--count N]
 
-Makes N trials of `bound` (100 without the option) from this seed (1) on, those with cuts that lack a point, and those
-that were made by hand, with models that are wrong in one thing each. Prints for each in how many trials the answer is
-another than that of the right model, and in how many of them the secrets that compare_bounds.py tries refute it without
-the right model. Last it prints how many wrong models were told apart. Python 3 only."""
+Makes N trials of `bound` (100 without the option) from this seed (1) on, a third as many with `--any-public`, those
+with cuts that lack a point, and those that were made by hand, with models that are wrong in one thing each. Prints for
+each in how many trials the answer is another than that of the right model, and in how many of them the secrets that
+compare_bounds.py tries refute it without the right model. Last it prints how many wrong models were told apart.
+Python 3 only."""
 import argparse
 import collections
 import random
 from unittest.mock import patch
 
 import bounds
+import rules
 import states
-from bounds import Bounds, TurnMasks, Walk
-from compare_bounds import bound_trial, lacking, task_of
+from bound_trials import Wanted, bound_trial, lacking, task_of
+from bounds import Bounds, Task, TurnMasks, Walk
 from cuts import places_of, slot_width
 from guest import SECRET
 from instructions import ALL
 from kept_guests import kept_trials
 from met_guests import met_trials
-from programs import random_bytes
+from public_guests import public_trials
+from range_guests import range_trials
+from rules import TABLE_3
 from states import Place
+from trial_pairs import tried_pairs
 from verdicts import judge, real_run
 
 SECRETS = 20
@@ -115,6 +120,26 @@ def transfer_public(self, number, descriptor, address, count):
         self.bytes.update(before)
 
 
+def ruled(**wrong):
+    """A model with other rules in table 3, without bits where none is secret."""
+    return lambda: patch.dict(TABLE_3, {name: rules.if_secret(rule) for name, rule in wrong.items()})
+
+
+def least_of(rule):
+    """A rule that takes the least that an operand can be for the greatest."""
+    return lambda v1, m1, v2, m2: rule(v1 & ~m1, 0, v2 & ~m2, 0)
+
+
+def divided_by_0(v1, m1, v2, m2):
+    """A quotient whose divisor may be 0 is between those by the others."""
+    return rules.spanned_quotient(v1, m1, v2, m2) if v2 & ~m2 else rules.spanned_quotient(v1, m1, v2 | 1, m2 & ~1)
+
+
+def left_by_0(v1, m1, v2, m2):
+    """A remainder whose divisor may be 0 is less than the greatest divisor."""
+    return rules.span(0, min(v1 | m1, max(v2 | m2, 1) - 1))
+
+
 def part_without(part, less):
     """A model that tells states apart by less."""
     return lambda: patch.object(states, "PARTS", [less if one is part else one for one in states.PARTS])
@@ -181,28 +206,44 @@ WRONG = [
     ("bits below a state are not added", lambda: patch.object(
         bounds, "fits", lambda walk, below: right_fits(walk, below._replace(bits=0)))),
     ("stops below a state are not counted", lambda: patch.object(Place, "add", add_unstopped)),
+    ("a public byte that may be any is clean", lambda: patch.object(bounds, "PUBLIC_MASK", 0)),
+    ("the public input is walked as it is given", lambda: patch.object(
+        Task, "walked_public", lambda task: task.public)),
+    ("quotients take the least for the greatest", ruled(divu=least_of(rules.spanned_quotient))),
+    ("remainders take the least for the greatest", ruled(remu=least_of(rules.spanned_remainder))),
+    ("high halves take the least for the greatest", ruled(mulhu=least_of(rules.spanned_high))),
+    ("shifts take the least for the greatest", ruled(srl=least_of(TABLE_3["srl"]))),
+    ("a divisor of a quotient may be 0", ruled(divu=divided_by_0)),
+    ("a divisor of a remainder may be 0", ruled(remu=left_by_0)),
+    ("bit 31 of a quotient's operands may differ", ruled(div=rules.spanned_quotient)),
+    ("bit 31 of a remainder's operands may differ", ruled(rem=rules.spanned_remainder)),
+    ("bit 31 of a product's operands may differ", ruled(mulh=rules.spanned_high)),
+    ("bit 31 of a product's first operand may differ", ruled(mulhsu=rules.spanned_high)),
+    ("a span lacks its lowest bits", lambda: patch.object(rules, "span", lambda first, second: first ^ second)),
+    ("a product of more than 32 bits has a span", ruled(mul=lambda v1, m1, v2, m2: rules.narrow_multiply(
+        v1, m1, v2, m2) & rules.span((v1 & ~m1) * (v2 & ~m2), (v1 | m1) * (v2 | m2)))),
     ("a walk too few is made", lambda: patch.object(bounds, "has_enough", lambda walks, most: walks + 1 >= most)),
 ]
 
 
 class Trial:
-    """A trial: its task, the answer of the right model, and secrets with their runs."""
+    """A trial: its task, the answer of the right model, and public inputs and secrets with their runs."""
 
     def __init__(self, name, files, words):
         self.name, self.task = name, task_of(files, words)
         self.answer, dice = self.answered().text(True), random.Random(f"secrets {name}")
-        self.secrets = [random_bytes(dice, self.task.cut.secret_length) for _ in range(SECRETS)]
+        self.pairs = [(public, secret) for public, some in tried_pairs(dice, self.task, SECRETS) for secret in some]
         self.runs = None
 
     def answered(self):
         """The answer of the model as it is."""
         return Bounds(self.task)
 
-    def run(self, secret):
-        """A secret's run, and whether it is accepted."""
+    def run(self, pair):
+        """The run of a public input and a secret, and whether it is accepted."""
         task = self.task
-        real = real_run(task.image, task.public, secret, task.regions, task.turns)
-        judged = judge(task.image, task.public, secret, task.regions, task.cut, task.budget, task.turns, real)
+        real = real_run(task.image, *pair, task.regions, task.turns)
+        judged = judge(task.image, *pair, task.regions, task.cut, task.budget, task.turns, real)
         return real, judged.word == "accepted"
 
     def is_refuted(self, found):
@@ -211,7 +252,7 @@ class Trial:
             return False
         if found.outputs() > 1 << self.task.budget:
             return True
-        self.runs = self.runs or list(map(self.run, self.secrets))
+        self.runs = self.runs or list(map(self.run, self.pairs))
         is_of_all = not self.task.regions and not found.stopped
         for real, is_accepted in self.runs:
             if real.ending[0] != "exited":
@@ -224,9 +265,9 @@ class Trial:
         return False
 
 
-def trials_of(seed):
+def trials_of(seed, wanted=Wanted()):
     """The trial of a seed, and where that is bounded and has points, the one without one of them."""
-    files, words = bound_trial(seed)
+    files, words = bound_trial(seed, wanted)
     trial = Trial(seed, files, words)
     without = None if trial.answered().unclear else lacking(seed, files, trial.task)
     return [trial] + ([Trial(seed, without, words)] if without else [])
@@ -252,9 +293,12 @@ def main():
     parser.add_argument("--first", type=int, default=1, metavar="SEED")
     parser.add_argument("--count", type=int, default=100, metavar="N")
     words, missed, refuted = parser.parse_args(), 0, 0
-    trials = [Trial(name, files, line) for name, files, line, _ in kept_trials() + met_trials()]
+    by_hand = kept_trials() + met_trials() + public_trials() + range_trials()
+    trials = [Trial(name, files, line) for name, files, line, _ in by_hand]
     for seed in range(words.first, words.first + words.count):
         trials += trials_of(seed)
+    for seed in range(words.first, words.first + words.count // 3):
+        trials += trials_of(seed, Wanted(is_any_public=True))
     assert not tried(trials)["refuted"]
     for name, change in WRONG:
         with change():

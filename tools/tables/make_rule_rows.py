@@ -15,14 +15,23 @@ where MASK does not have each bit of CHANGED.
 
 First come worked masks that were computed by hand; they have the bits of the mask that the script saw change. Then 12
 cases for each instruction by table 1, and so many cases for each of the six classes of table 2 that are narrower that
-600 are by it. Then one instruction of each class by table 0, and last five rows that must not agree.
+600 are by it. Then 300 cases for each of the eleven classes of table 3 that are narrower, and 4 for each instruction of
+another class by it. Then one instruction of each class by table 0, and last five rows that must not agree.
 
 The operations are computed from the RISC-V Unprivileged ISA; nothing here is taken from the crates.
 
 With the word `compare` the script prints instead, for random operands with any secret bits, in how many cases of each
-class table 2 is narrower than table 1; it stops where table 2 has a bit that table 1 does not have."""
+class table 2 is narrower than table 1, and table 3 than table 2. It stops where the later has a bit that the earlier
+does not have, where 16 random choices of the secret bits change a bit that table 3 does not have, and where the rule of
+tools/model is another."""
 import argparse
+import pathlib
 import random
+import sys
+
+sys.path.insert(0, str(pathlib.Path(__file__).resolve().parent.parent / "model"))
+
+from rules import TABLES as MODEL
 
 ALL = 0xFFFFFFFF
 EDGES = (0, 1, 2, 4, 31, 32, 0x7F, 0x80, 0xFF, 0x7FFFFFFF, 0x80000000, 0x80000001, 0xFFFFFFFE, ALL)
@@ -59,17 +68,13 @@ OPERATIONS = {
     "Sltu": [lambda a, b: int(a < b), lambda a, b: int(a >= b)],
     "Equal": [lambda a, b: int(a == b), lambda a, b: int(a != b)],
     "Mul": [lambda a, b: (a * b) & ALL],
-    "High": [
-        lambda a, b: (signed(a) * signed(b) >> 32) & ALL,
-        lambda a, b: (signed(a) * b >> 32) & ALL,
-        lambda a, b: (a * b >> 32) & ALL,
-    ],
-    "Div": [
-        lambda a, b: divided(a, b, True)[0],
-        lambda a, b: divided(a, b, False)[0],
-        lambda a, b: divided(a, b, True)[1],
-        lambda a, b: divided(a, b, False)[1],
-    ],
+    "Mulh": [lambda a, b: (signed(a) * signed(b) >> 32) & ALL],
+    "Mulhsu": [lambda a, b: (signed(a) * b >> 32) & ALL],
+    "Mulhu": [lambda a, b: (a * b >> 32) & ALL],
+    "Div": [lambda a, b: divided(a, b, True)[0]],
+    "Divu": [lambda a, b: divided(a, b, False)[0]],
+    "Rem": [lambda a, b: divided(a, b, True)[1]],
+    "Remu": [lambda a, b: divided(a, b, False)[1]],
     # the target of JALR
     "Target": [lambda a, b: (a + b) & ALL & ~1],
 }
@@ -136,12 +141,59 @@ def by_narrow_table(kind, v1, m1, v2, m2):
     return by_table(kind, v1, m1, v2, m2)
 
 
+def below_difference(one, other):
+    """The highest bit in which two numbers differ and every bit below it."""
+    bits = one ^ other
+    for shift in (1, 2, 4, 8, 16, 32):
+        bits |= bits >> shift
+    return bits
+
+
+def amounts(v2, m2):
+    """The numbers of places by which a shift may go."""
+    return sorted({value & 31 for value in values(v2 & 31, m2 & 31)})
+
+
+def by_ranges(kind, least1, most1, least2, most2):
+    """The mask of a product's high half, a quotient or a remainder without signs, by what each operand is between."""
+    if kind == "Mulhu":
+        return below_difference(least1 * least2 >> 32, most1 * most2 >> 32)
+    if least2 == 0:
+        return ALL
+    if kind == "Divu":
+        return below_difference(least1 // most2, most1 // least2)
+    return most1 ^ least1 if most1 < least2 else below_difference(0, min(most1, most2 - 1))
+
+
+WITHOUT_SIGNS = {"Mulh": "Mulhu", "Mulhsu": "Mulhu", "Div": "Divu", "Rem": "Remu"}
+
+
+def by_ranged_table(kind, v1, m1, v2, m2):
+    least1, least2, most1, most2 = v1 & ~m1 & ALL, v2 & ~m2 & ALL, v1 | m1, v2 | m2
+    if not m1 | m2:
+        return 0
+    if kind in ("Sll", "Srl", "Sra"):
+        shift, may_be_1, may_be_0 = OPERATIONS[kind][0], 0, 0
+        for amount in amounts(v2, m2):
+            may_be_1, may_be_0 = may_be_1 | shift(most1, amount), may_be_0 | ~shift(least1, amount)
+        return may_be_1 & may_be_0
+    if kind == "Mul" and most1 * most2 < 1 << 32:
+        return by_narrow_table(kind, v1, m1, v2, m2) & below_difference(least1 * least2, most1 * most2)
+    if kind in WITHOUT_SIGNS:
+        signs = most1 | (0 if kind == "Mulhsu" else most2)
+        return ALL if signs >> 31 else by_ranges(WITHOUT_SIGNS[kind], least1, most1, least2, most2)
+    if kind in ("Mulhu", "Divu", "Remu"):
+        return by_ranges(kind, least1, most1, least2, most2)
+    return by_narrow_table(kind, v1, m1, v2, m2)
+
+
 def by_widest_table(kind, v1, m1, v2, m2):
     return (ALL if m1 | m2 else 0) & (~1 if kind == "Target" else ALL)
 
 
-TABLES = (by_widest_table, by_table, by_narrow_table)
+TABLES = (by_widest_table, by_table, by_narrow_table, by_ranged_table)
 NARROW = ("Add", "Sub", "Slt", "Sltu", "Equal", "Mul")
+RANGED = ("Mul", "Mulh", "Mulhsu", "Mulhu", "Div", "Divu", "Rem", "Remu", "Sll", "Srl", "Sra")
 
 
 def values(value, mask):
@@ -187,8 +239,8 @@ def store_form(funct3):
 INSTRUCTIONS = (
     [(kind, register_form(0x33, funct3, funct7), None) for kind, funct3, funct7 in (
         ("Add", 0, 0), ("Sub", 0, 0x20), ("Sll", 1, 0), ("Slt", 2, 0), ("Sltu", 3, 0), ("Xor", 4, 0), ("Srl", 5, 0),
-        ("Sra", 5, 0x20), ("Or", 6, 0), ("And", 7, 0), ("Mul", 0, 1), ("High", 1, 1), ("High", 2, 1), ("High", 3, 1),
-        ("Div", 4, 1), ("Div", 5, 1), ("Div", 6, 1), ("Div", 7, 1),
+        ("Sra", 5, 0x20), ("Or", 6, 0), ("And", 7, 0), ("Mul", 0, 1), ("Mulh", 1, 1), ("Mulhsu", 2, 1), ("Mulhu", 3, 1),
+        ("Div", 4, 1), ("Divu", 5, 1), ("Rem", 6, 1), ("Remu", 7, 1),
     )]
     + [(kind, immediate_form(0x13, funct3), "immediate") for kind, funct3 in (
         ("Add", 0), ("Slt", 2), ("Sltu", 3), ("Xor", 4), ("Or", 6), ("And", 7),
@@ -218,7 +270,7 @@ def second_operand(choose, place):
 
 
 # masks that were computed by hand: the table, the instruction's number in INSTRUCTIONS, the operands and the mask
-ADD, SUB, SLL, SLT, SLTU, XOR, SRL, SRA, OR, AND, MUL, MULH, DIV = 0, 1, 2, 3, 4, 5, 6, 7, 8, 9, 10, 11, 14
+ADD, SUB, SLL, SLT, SLTU, XOR, SRL, SRA, OR, AND, MUL, MULH, MULHSU, MULHU, DIV, DIVU, REM, REMU = range(18)
 BEQ = 27
 WORKED = (
     (1, ADD, 0, 0x10, 0, 0, 0xFFFFFFF0),
@@ -241,6 +293,32 @@ WORKED = (
     (2, MUL, 0, 2, 4, 0, 0xFFFFFFF8),
     (2, MUL, 0, 0xFF, 0, 0, 0),
     (2, SLTU, 0, 7, 7, 0, 1),
+    (3, MUL, 0, 0xFF, 10, 0, 0xFFE),
+    (3, MUL, 0, 0xFF, 0, 0xFF, 0xFFFF),
+    (3, MUL, 0, 0xF, 0x10000000, 0, 0xF0000000),
+    (3, MULHU, 0, 0xFF000000, 0x10000, 0, 0xFFFF),
+    (3, MULHU, 0, 0xFF, 0xFF, 0, 0),
+    (3, MULH, 0, 0x7F000000, 0x10000, 0, 0x7FFF),
+    (3, MULH, 0, 1, 0x80000000, 0, 0xFFFFFFFF),
+    (3, MULHSU, 0, 1, 0x80000000, 0, 0),
+    (3, MULHSU, 0x80000000, 1, 1, 0, 0xFFFFFFFF),
+    (3, DIVU, 0, 0xFF, 10, 0, 0x1F),
+    (3, DIVU, 0xC0, 0xF, 10, 0, 7),
+    (3, DIVU, 0xF0, 7, 1, 2, 0xFF),
+    (3, DIVU, 0xF0, 0, 0, 1, 0xFFFFFFFF),
+    (3, DIV, 0, 0xFF, 2, 0, 0x7F),
+    (3, DIV, 0x80000000, 1, 2, 0, 0xFFFFFFFF),
+    (3, DIV, 0x80000000, 0, 0xFFFFFFFF, 0, 0),
+    (3, REMU, 0, 0xFF, 10, 0, 0xF),
+    (3, REMU, 0, 0x7C, 128, 0, 0x7C),
+    (3, REMU, 5, 0, 8, 16, 0),
+    (3, REMU, 5, 0, 0, 8, 0xFFFFFFFF),
+    (3, REM, 0, 0xFF, 4, 0, 3),
+    (3, REM, 0xFFFFFFF0, 1, 4, 0, 0xFFFFFFFF),
+    (3, SLL, 1, 0, 0, 3, 0xF),
+    (3, SRL, 0x80, 0, 0, 3, 0xF0),
+    (3, SRA, 0xFFFFFFF8, 0, 0, 3, 7),
+    (3, SRA, 0xFFFFFF80, 0xF, 0, 4, 0x7F),
 )
 
 
@@ -272,6 +350,13 @@ def random_rows(choose, table, instruction, count):
         row(table, kind, case)
 
 
+def ranged_rows(choose):
+    """Cases of table 3: many of the classes that it makes narrower, and some of the others."""
+    for instruction in INSTRUCTIONS:
+        count = sum(other[0] == instruction[0] for other in INSTRUCTIONS)
+        random_rows(choose, 3, instruction, -(-300 // count) if instruction[0] in RANGED else 4)
+
+
 def widest_rows():
     """One instruction of each class, and a load; the top bit of the first operand is secret, all else is 0."""
     seen = set()
@@ -288,22 +373,63 @@ def wrong_rows():
     print(f"1 007302b3 {operands} -> 00000001 fffffff0")
     print(f"1 00000073 {operands} -> 00000010 fffffff0")
     print(f"1 007302b3 {operands} 00000000 -> 00000010 fffffff0")
-    print(f"3 007302b3 {operands} -> 00000010 fffffff0")
+    print(f"4 007302b3 {operands} -> 00000010 fffffff0")
+
+
+def random_number(choose):
+    """A number of any length, or one at an edge."""
+    return choose.choice([choose.getrandbits(32), choose.getrandbits(32) >> choose.randrange(33), choose.choice(EDGES)])
+
+
+def random_mask(choose):
+    """Secret bits: a stretch of random ones, few, or some of those of the table."""
+    stretch = choose.getrandbits(32) >> choose.randrange(33) << choose.randrange(32) & ALL
+    few = choose.getrandbits(32) & choose.getrandbits(32) & choose.getrandbits(32)
+    return choose.choice([stretch, stretch, few, (1 << choose.randrange(33)) - 1, choose.choice(MASKS)])
+
+
+def random_operands(choose):
+    """Operands with secret bits in both, or in one."""
+    v1, m1, v2, m2 = random_number(choose), random_mask(choose), random_number(choose), random_mask(choose)
+    shape = choose.randrange(3)
+    return v1, 0 if shape == 1 else m1, v2, 0 if shape == 2 else m2
+
+
+def chosen(choose, value, mask):
+    """A value with other secret bits."""
+    return value & ~mask & ALL | choose.getrandbits(32) & mask
+
+
+def look_at_choices(choose, kind, mask, v1, m1, v2, m2):
+    """Stops where other secret bits change a bit outside a mask."""
+    for operation in OPERATIONS[kind]:
+        first = operation(v1, v2)
+        for _ in range(16):
+            other = operation(chosen(choose, v1, m1), chosen(choose, v2, m2))
+            assert (first ^ other) & ~mask == 0, (kind, v1, m1, v2, m2)
+
+
+def is_narrower(kind, wide, narrow, operands):
+    """Whether one table is narrower than another; stops where it is wider, or where the model is another."""
+    masks = [TABLES[table](kind, *operands) for table in (wide, narrow)]
+    assert masks[1] & ~masks[0] == 0, (kind, *operands)
+    if kind != "Target":
+        assert masks[1] == MODEL[narrow][kind.lower()](*operands), (kind, *operands)
+    return masks[0] != masks[1]
 
 
 def compare(choose):
-    """Counts in how many random cases table 2 is narrower than table 1."""
+    """Counts in how many random cases table 2 is narrower than table 1, and table 3 than table 2."""
     for kind in NARROW:
-        narrower, count = 0, 100000
-        for _ in range(count):
-            v1, v2 = choose.getrandbits(32), choose.getrandbits(32)
-            shape = choose.randrange(3)
-            m1, m2 = (choose.getrandbits(32) >> choose.randrange(33) << choose.randrange(32) & ALL for _ in range(2))
-            m1, m2 = (m1, m2) if shape == 0 else (m1, 0) if shape == 1 else (0, m2)
-            wide, narrow = by_table(kind, v1, m1, v2, m2), by_narrow_table(kind, v1, m1, v2, m2)
-            assert narrow & ~wide == 0, (kind, v1, m1, v2, m2)
-            narrower += narrow != wide
-        print(f"{kind} {count} cases, table 2 narrower in {narrower}, wider in 0")
+        narrower = sum(is_narrower(kind, 1, 2, random_operands(choose)) for _ in range(100_000))
+        print(f"{kind} 100000 cases, table 2 narrower in {narrower}, wider in 0", flush=True)
+    for kind in OPERATIONS:
+        narrower = 0
+        for _ in range(20_000):
+            operands = random_operands(choose)
+            narrower += is_narrower(kind, 2, 3, operands)
+            look_at_choices(choose, kind, by_ranged_table(kind, *operands), *operands)
+        print(f"{kind} 20000 cases, table 3 narrower in {narrower}, wider in 0", flush=True)
 
 
 def main():
@@ -319,8 +445,10 @@ def main():
         instructions = [instruction for instruction in INSTRUCTIONS if instruction[0] == kind]
         for instruction in instructions:
             random_rows(choose, 2, instruction, -(-600 // len(instructions)))
+    ranged_rows(choose)
     widest_rows()
     wrong_rows()
 
 
-main()
+if __name__ == "__main__":
+    main()

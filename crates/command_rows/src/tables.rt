@@ -63,7 +63,7 @@ pub struct Row {
 }
 
 /// The tables.
-pub const TABLES: [&[Row]; 35] = [
+pub const TABLES: [&[Row]; 36] = [
     &check_rows::JUDGED,
     &check_rows::REJECTED,
     &check_rows::REFUSED,
@@ -71,6 +71,7 @@ pub const TABLES: [&[Row]; 35] = [
     &finding_rows::UNCLEAR,
     &finding_rows::REGIONS,
     &bound_rows::BOUNDED,
+    &bound_rows::ANY_PUBLIC,
     &bound_rows::UNCLEAR,
     &bound_rows::REFUSED,
     &source_rows::ROWS,

@@ -126,6 +126,11 @@ pub const FORMS: [Form; 13] = [
                 help: "How many walks are made at most, 1 to 1048576; 65536 without it",
             },
             Item {
+                name: "any-public",
+                takes: Takes::Nothing,
+                help: "Bound them whatever the public input is, if it has as many bytes as PUBLIC",
+            },
+            Item {
                 name: "list",
                 takes: Takes::Nothing,
                 help: "List the outputs that there can be",

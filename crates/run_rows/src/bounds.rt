@@ -3,7 +3,9 @@
 use crate::guests::Guest;
 use crate::rows::Row;
 use crate::texts::put_bits;
-use every_secret::{BoundVerdict, Bounded, Pattern, StoppedPath, bound, output_bits, output_count};
+use every_secret::{
+    BoundVerdict, Bounded, Pattern, PublicInput, StoppedPath, bound, output_bits, output_count,
+};
 use flow_base::NoMemory;
 use transfer_rules::RuleBook;
 
@@ -95,6 +97,7 @@ pub fn print(rt: &HostRuntime, row: &Row<'_>, guest: &Guest<'_>, book: &RuleBook
         rt.alloc(),
         guest.image,
         guest.public,
+        PublicInput::Given,
         guest.regions,
         guest.cut,
         book,

@@ -3,7 +3,7 @@
 use super::Content::{Code, Text};
 use super::Failing::{Load, Nothing};
 use super::cuts::{ALL_BITS, LOWEST, NO_BITS, OUT};
-use super::guests::{ECHO, LOW, OUTSIDE};
+use super::guests::{ECHO, LOW, OUTSIDE, TYPED};
 use super::{Content, Row};
 
 const LOW_LOWEST: [(&str, Content); 2] = [("prog", Code(&LOW)), ("cut", Text(LOWEST))];
@@ -59,6 +59,65 @@ pub const BOUNDED: [Row; 4] = [
         text: Text(
             "stopped path - bits 0 guest load-outside 0x00010000 address 0x00000000\n\
                 bounded secret 1 regions 0 paths 1 stopped 1 outputs 0 bits 0\n",
+        ),
+    },
+];
+
+/// A public byte that is echoed.
+const TYPED_WRITTEN: [(&str, Content); 3] = [
+    ("prog", Code(&TYPED)),
+    ("public", Text("a")),
+    ("cut", Text(WRITTEN)),
+];
+
+const TYPED_NO_BITS: [(&str, Content); 3] = [
+    ("prog", Code(&TYPED)),
+    ("public", Text("a")),
+    ("cut", Text(NO_BITS)),
+];
+
+/// Of any public input each byte may be all that a byte may be; without the flag it is known.
+pub const ANY_PUBLIC: [Row; 4] = [
+    Row {
+        name: "of any public input the length is told, here of one that has no byte",
+        words: "bound prog public cut 1 --any-public",
+        files: &LOW_LOWEST,
+        failing: Nothing,
+        loads: 3,
+        status: 0,
+        text: Text("bounded secret 1 public 0 regions 0 paths 2 stopped 0 outputs 2 bits 1\n"),
+    },
+    Row {
+        name: "a byte that is typed and shown is free",
+        words: "bound --any-public prog public cut 8 --list",
+        files: &TYPED_WRITTEN,
+        failing: Nothing,
+        loads: 3,
+        status: 0,
+        text: Text(
+            "output 1 free 8 bytes 00 status 0 mask ff 00\n\
+                bounded secret 1 public 1 regions 0 paths 1 stopped 0 outputs 256 bits 8\n",
+        ),
+    },
+    Row {
+        name: "a byte that is typed and shown, where no cut counts it",
+        words: "bound prog public cut 8 --any-public",
+        files: &TYPED_NO_BITS,
+        failing: Nothing,
+        loads: 3,
+        status: 1,
+        text: Text("unclear path - bits 0 left 0 0x0001001c ou mask 0x000000ff\n"),
+    },
+    Row {
+        name: "a byte that is known and shown gives no bit",
+        words: "bound prog public cut 0 --list",
+        files: &TYPED_NO_BITS,
+        failing: Nothing,
+        loads: 3,
+        status: 0,
+        text: Text(
+            "output 1 free 0 bytes 61 status 0\n\
+                bounded secret 1 regions 0 paths 1 stopped 0 outputs 1 bits 0\n",
         ),
     },
 ];

@@ -33,6 +33,21 @@ pub const ECHO: [u32; 11] = [
     0x0000_0073,
 ];
 
+/// Reads a public byte and writes it.
+pub const TYPED: [u32; 11] = [
+    0x0000_0513,
+    0x0001_15b7,
+    0x0010_0613,
+    0x03f0_0893,
+    0x0000_0073,
+    0x0010_0513,
+    0x0400_0893,
+    0x0000_0073,
+    0x0000_0513,
+    0x05d0_0893,
+    0x0000_0073,
+];
+
 /// Exits with status 0.
 pub const EXIT: [u32; 3] = [0x0000_0513, 0x05d0_0893, 0x0000_0073];
 
