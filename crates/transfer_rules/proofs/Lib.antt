@@ -5,12 +5,12 @@ pub mod Carries
 pub mod Instructions
 pub mod Masks
 pub mod NarrowMasks
-mod NoWider
+pub mod NoWider
 pub mod Operations
 pub mod Orders
 mod Places
 pub mod Products
-mod RangeMasks
+pub mod RangeMasks
 pub mod Results
 pub mod ShiftRanges
 pub mod Shifts
