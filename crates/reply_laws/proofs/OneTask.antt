@@ -111,13 +111,14 @@ one_run_fault laws run files first second one other =
 
 -- ---- a bound
 
-abbrev made_all : Guest → CutPicture → Limits → ℕ → ℕ → Bool → AllSecretsTask
-made_all guest cut limits table paths listed = record {
+abbrev made_all : Guest → CutPicture → Limits → ℕ → ℕ → Bool → Bool → AllSecretsTask
+made_all guest cut limits table paths any_public listed = record {
   guest = guest;
   cut = cut;
   limits = limits;
   table = table;
   paths = paths;
+  any_public = any_public;
   listed = listed;
 }
 
@@ -129,12 +130,13 @@ same_all laws all files a b one other =
     let guest : a.guest ≡ b.guest = (guest_reading laws other.guest_files).one a.guest b.guest
     (subst (λ f. IsGuest f a.guest) same.guests one.guest) other.guest in
     let cut : a.cut ≡ b.cut = one_cut other.cut_file a.cut b.cut (rw same.cuts at one.cut) other.cut in
-    ap (λ v. made_all v a.cut a.limits a.table a.paths a.listed) guest
-    ∙ (ap (λ v. made_all b.guest v a.limits a.table a.paths a.listed) cut
-    ∙ (ap (λ v. made_all b.guest b.cut v a.table a.paths a.listed) (one.limits ∙ sym other.limits)
-    ∙ (ap (λ v. made_all b.guest b.cut b.limits v a.paths a.listed) (one.table ∙ sym other.table)
-    ∙ (ap (λ v. made_all b.guest b.cut b.limits b.table v a.listed) (one.paths ∙ sym other.paths)
-    ∙ ap (λ v. made_all b.guest b.cut b.limits b.table b.paths v) (one.listed ∙ sym other.listed)))))
+    ap (λ v. made_all v a.cut a.limits a.table a.paths a.any_public a.listed) guest
+    ∙ (ap (λ v. made_all b.guest v a.limits a.table a.paths a.any_public a.listed) cut
+    ∙ (ap (λ v. made_all b.guest b.cut v a.table a.paths a.any_public a.listed) (one.limits ∙ sym other.limits)
+    ∙ (ap (λ v. made_all b.guest b.cut b.limits v a.paths a.any_public a.listed) (one.table ∙ sym other.table)
+    ∙ (ap (λ v. made_all b.guest b.cut b.limits b.table v a.any_public a.listed) (one.paths ∙ sym other.paths)
+    ∙ (ap (λ v. made_all b.guest b.cut b.limits b.table b.paths v a.listed) (one.any_public ∙ sym other.any_public)
+    ∙ ap (λ v. made_all b.guest b.cut b.limits b.table b.paths b.any_public v) (one.listed ∙ sym other.listed))))))
 
 -- ---- a run
 
