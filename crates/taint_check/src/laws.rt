@@ -6,7 +6,7 @@ pub fn clean_secrets_are_accepted()
     ensures clean { CleanLaw }
 {}
 
-/// By the mask rules of table 1, or of table 2, a check of a secret with one machine has one verdict. It does nothing when
+/// By the mask rules of table 1, 2 or 3 a check of a secret with one machine has one verdict. It does nothing when
 /// it is called.
 pub fn verdicts_are_one()
     ensures one { OneVerdict }

@@ -6,7 +6,7 @@ pub mod Deciding
 pub mod Instructions
 pub mod Masks
 pub mod NarrowMasks
-mod NoWider
+pub mod NoWider
 pub mod Operations
 pub mod Orders
 mod Places

@@ -3,7 +3,7 @@ use Rattle.std.proofs.Common.{◌≡◌, ℕ, ◌+◌, ◌-◌, ◌/◌, ◌%◌
 use Rattle.std.proofs.Common.{⊎_elim, arith, shr-shr}
 use Rattle.std.specs.Prelude.{bit_xor}
 use Rattle.std.specs.Int.{bit_at, leading_zeros, w32}
-use Rattle.std.proofs.Math.Nat.{div-eq_of_lt, div-mul-le_self}
+use Rattle.std.proofs.Math.Nat.{div-eq_of_lt, div-le_self, div-mul-le_self}
 use Rattle.std.proofs.Math.Pow.{shr_mono}
 use Rattle.std.proofs.lemmas.Bool.{cases_eq, cases_lt, eq-eqb, ne_eqb}
 use Rattle.std.proofs.lemmas.Nat.{le-div, leading_length, leading_top, mul-le, xor_lt, xor_shr}
@@ -60,6 +60,16 @@ spanned x y p q = ⊎_elim
   where
     below : (n m : ℕ) → n < 2 ^ m → n / 2 ^ m ≡ 0
     below n m small = div-eq_of_lt small
+
+-- the span of two words is a word
+pub span_fits : (x y : ℕ) → span x y < 2 ^ 32
+span_fits x y = ⊎_elim
+    (λ same. rw (eq-eqb x y same) (omega arith))
+    (λ differ.
+    let part : 4294967295 / 2 ^ leading_zeros w32 (bit_xor x y) ≤ 4294967295 =
+    div-le_self 4294967295 (2 ^ leading_zeros w32 (bit_xor x y)) in
+    rw (ne_eqb x y differ) (omega (arith, part)))
+    (cases_eq x y)
 
 -- words between two words agree outside the span of these
 pub agree_span :

@@ -50,10 +50,9 @@ pub(crate) fn quotient_range(first: Bounds, second: Bounds) -> u32
     requires { second.low ≤ second.high }
     ensures { result ≡ quotient_range first second }
 {
-    if second.low == 0 {
-        u32::MAX
-    } else {
-        span(first.low / second.high, first.high / second.low)
+    match first.high.checked_div(second.low) {
+        Some(most) => span(first.low / second.high, most),
+        None => u32::MAX,
     }
 }
 
