@@ -4,7 +4,9 @@
 Runs `rt ci` at the top of the repository, with the names that are given or none, passes its output on, and prints at
 the end how many processor minutes each crate took: its proof, its tests and its must-fail edits. The shares are read
 off the running checks twice a second, so a check shorter than that may be missed. Other checks on the machine that
-work in other checkouts are not counted. Linux with Python 3."""
+work in other checkouts are not counted. Last stands how many times the proof of `flow_base` the whole is, and the
+longest proof of a crate: these two tell of the gate, whatever machine it runs on. The goal is 80 times at most for the
+whole and 1.8 times for a crate. Linux with Python 3."""
 import argparse
 import os
 import pathlib
@@ -14,6 +16,7 @@ import threading
 import time
 
 TICKS = os.sysconf("SC_CLK_TCK")
+BASE, MOST_WHOLE, MOST_CRATE = "flow_base", 80, 1.8
 
 
 def children(parent):
@@ -61,7 +64,17 @@ def watch(run, shares):
         time.sleep(0.5)
 
 
+def ratios(proofs, total):
+    """The whole and the longest proof of a crate, as multiples of the proof of the crate at the bottom."""
+    if not proofs.get(BASE):
+        return f"{BASE} was not proved in this run, so there is nothing to compare with"
+    longest = max(proofs, key=proofs.get)
+    return (f"all: {total / proofs[BASE]:.0f} times the proof of {BASE}, at most {MOST_WHOLE} wanted; "
+            f"longest proof, of {longest}: {proofs[longest] / proofs[BASE]:.1f} times, at most {MOST_CRATE} wanted")
+
+
 def main():
+    """Runs the gate, and prints the shares."""
     parser = argparse.ArgumentParser(description=__doc__, formatter_class=argparse.RawDescriptionHelpFormatter)
     parser.add_argument("names", metavar="NAME", nargs="*")
     words, begin = parser.parse_args(), time.time()
@@ -76,11 +89,14 @@ def main():
     print(f"\n{total:.0f} processor minutes in checks, {(time.time() - begin) / 60:.0f} minutes of wall time, "
           f"{os.cpu_count()} processors\n")
     print("| Crate | Proof | Tests | Edits | All |\n|---|---|---|---|---|")
+    proofs = {}
     for crate in crates:
         parts = {part: sum(s for (_, c, p), s in shares.items() if c == crate and p == part) / 60
                  for part in ("proof", "tests", "edits")}
+        proofs[crate] = parts["proof"]
         print(f"| `{crate}` | {parts['proof']:.1f} | {parts['tests']:.1f} | {parts['edits']:.1f} "
               f"| {sum(parts.values()):.1f} |")
+    print(f"\n{ratios(proofs, total)}")
     return status
 
 
