@@ -1,11 +1,13 @@
 #!/usr/bin/env python3
-"""definitions.py NAME .. [--list]
+"""definitions.py NAME .. [--list | --read]
 definitions.py --unreached
 
 Prints on how many definitions of specs/ a statement stands, in how many files, and how many lines these have, and the
 same of the types of src/: what is read to know what it says. A NAME is a definition, as
 `lockstep_replay.specs.Acceptance.Accept`, or the contract of a function, as `commands::flowcheck`: all of its
 `requires` and `ensures`. Of several names the last line says it of all together. `--list` names what is counted.
+`--read` prints the files in an order in which they can be read, each behind those on which it stands as far as that can
+be, with the lines to read in each, and for how many hours of reading all lines up to there are: 100 to 160 an hour.
 
 It reads the crates of the folder in which it is called. A definition stands on what its signature and its body name,
 and on what that names in turn. A name is what the `use` lines of its file bring, or what its file defines; bound names
@@ -31,6 +33,7 @@ FUNCTION = re.compile(r"(?ms)^pub (?:const )?fn (\w+)(.*?)^\{")
 METHOD = re.compile(r"(?ms)^    pub (?:const )?fn (\w+)(.*?)^    \{")
 BLOCK = re.compile(r"(?m)^(?:pub(?:\(crate\))? )?(impl\b[^{;]*|trait \w[^{;]*)\{")
 OF_TRAIT = re.compile(r"(?s)ghost (?!use\b)\w+ = \{.*?\};|(?:requires|ensures)[^\n]*\{.*?\}\n")
+SLOW, FAST = 100, 160  # lines an hour
 GIVEN_OUT = re.compile(r"pub use ([\w:]+?)(?:::\{([^}]*)\})?;")
 
 
@@ -50,7 +53,7 @@ class Source:
 
     def __init__(self, path):
         self.crate, self.path, self.text = path.parts[1], path, path.read_text()
-        self.lines, self.brings, self.variants = self.text.split("\n"), {}, {}
+        self.lines, self.brings, self.variants, self.within = self.text.split("\n"), {}, {}, {}
         for whole, listed, other in USE.findall(bare(self.text)):
             module = whole.replace("::", ".").split(".")
             if not listed:
@@ -60,12 +63,24 @@ class Source:
                 self.brings[other or name] = module + [name]
         self.heads = dict(self.definitions() if path.suffix == ".antt" else self.types())
 
+    def outer_lines(self):
+        """The lines as if what stands in an inner module stood outside, and the head of the module of each line."""
+        outer, heads, head = [], [], ""
+        for line in self.lines:
+            head = line if line.startswith("module ") else head if line.startswith("  ") or not line else ""
+            heads.append(head)
+            outer.append(line[2:] if head and not line.startswith("module ") else line)
+        return outer, heads
+
     def definitions(self):
-        edges = [n for n, line in enumerate(self.lines) if re.match(r"--|use |pub mod|infix", line) or HEAD.match(line)]
-        for first, end in zip(edges, edges[1:] + [len(self.lines)]):
-            if head := HEAD.match(self.lines[first]):
-                name, body = head[1] or head[2], "\n".join(self.lines[first:end]).rstrip()
-                if " data " in self.lines[first]:
+        """Each definition with its first line and the line behind its last."""
+        outer, heads = self.outer_lines()
+        edges = [n for n, line in enumerate(outer) if re.match(r"--|use |pub mod|module |infix", line) or HEAD.match(line)]
+        for first, end in zip(edges, edges[1:] + [len(outer)]):
+            if head := HEAD.match(outer[first]):
+                name, body = head[1] or head[2], "\n".join(outer[first:end]).rstrip()
+                self.within[name] = heads[first]
+                if " data " in outer[first]:
                     self.variants |= dict.fromkeys(re.findall(r"(?m)^  ([\w']+) :", body), name)
                 yield name, (first, first + body.count("\n") + 1)
 
@@ -76,7 +91,8 @@ class Source:
                 yield found[1], (first, first + 1 if line.endswith("}") else next(ends) + 1)
 
     def text_of(self, name):
-        return bare("\n".join(self.lines[slice(*self.heads[name])]))
+        """The text of a definition, behind the head of the module in which it stands, if it is an inner one."""
+        return bare("\n".join([self.within.get(name, ""), *self.lines[slice(*self.heads[name])]]))
 
     def contracts(self):
         """The public functions that stand in no block, with their clauses."""
@@ -163,6 +179,24 @@ class Crates:
         start = None if function else self.brought(None, ["Rattle", *name.split(".")])
         return self.closure([start]) - {start} if start else sys.exit(f"nothing is named {name}")
 
+    def in_order(self, below):
+        """The files of these, each behind those on which it stands, but for files that stand on one another."""
+        by_file, order, met = {}, [], set()
+        for one in below:
+            by_file.setdefault(one[0].path, []).append(one)
+
+        def visit(path):
+            if path not in met:
+                met.add(path)
+                stands = {other[0].path for one in by_file[path] for other in self.closure([one]) & below}
+                for other in sorted(stands - {path}):
+                    visit(other)
+                order.append(path)
+
+        for path in sorted(by_file):
+            visit(path)
+        return [(path, by_file[path]) for path in order]
+
     def given_out(self, crate):
         """The names that the library of a crate gives out."""
         library = self.sources.get(pathlib.Path("crates", crate, "src", "lib.rt"))
@@ -198,10 +232,23 @@ def told(some, kind):
     return f"{len(some):,} {kind}, {len({one[0].path for one in some})} files, {sum(map(lines_of, some)):,} lines"
 
 
+def print_reading(files):
+    """Prints files in the order in which they can be read, with lines and hours."""
+    read = 0
+    for path, some in files:
+        lines = sum(map(lines_of, some))
+        read += lines
+        names = ", ".join(name for _, name in sorted(some, key=lambda one: one[0].heads[one[1]]))
+        print(f"{lines:5} lines, {read / SLOW:4.1f} hours  {path}: {names}")
+    print(f"{read:,} lines in {len(files)} files: {read / FAST:.0f} to {read / SLOW:.0f} hours")
+
+
 def main():
+    """Counts, lists, or says what to read."""
     parser = argparse.ArgumentParser(description=__doc__, formatter_class=argparse.RawDescriptionHelpFormatter)
     parser.add_argument("names", nargs="*", metavar="NAME")
     parser.add_argument("--list", action="store_true")
+    parser.add_argument("--read", action="store_true")
     parser.add_argument("--unreached", action="store_true")
     words = parser.parse_args()
     if bool(words.names) == words.unreached or words.list and words.unreached:
@@ -212,6 +259,9 @@ def main():
         print("".join(f"{wrong}: {path}\n" for path, wrong in found), end="")
         return 1 if found else 0
     rows = [(name, crates.below(name)) for name in words.names]
+    if words.read:
+        print_reading(crates.in_order(set().union(*(below for _, below in rows))))
+        return 0
     if len(rows) > 1:
         rows.append(("together", set().union(*(below for _, below in rows))))
     for name, below in rows:
