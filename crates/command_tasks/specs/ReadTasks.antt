@@ -103,13 +103,13 @@ pub record AreBoundedRuns (runs : ReadManyRuns) : Type 0 where
   pub last : runs.table ≤ 3
 
 -- what is read is within the limits of what answers it
-abbrev pub IsBounded : ReadTask → Type 0
-IsBounded (tasks.JudgeSecrets check) = IsBoundedCheck check
-IsBounded (tasks.BoundAll all) = IsBoundedAll all
-IsBounded (tasks.TellRun telling run) = IsBoundedRun run
-IsBounded (tasks.MeasureAll version runs) = AreBoundedRuns runs
-IsBounded (tasks.WriteProgram image) = length image.segments ≤ 64
-IsBounded (tasks.ListProgram image) = Unit {0}
-IsBounded (tasks.VerifyCertificate certificate) = Unit {0}
-IsBounded (tasks.MigrateCut cut) = Unit {0}
-IsBounded (tasks.TryNumber number) = Unit {0}
+abbrev pub IsLimitedTask : ReadTask → Type 0
+IsLimitedTask (tasks.JudgeSecrets check) = IsBoundedCheck check
+IsLimitedTask (tasks.BoundAll all) = IsBoundedAll all
+IsLimitedTask (tasks.TellRun telling run) = IsBoundedRun run
+IsLimitedTask (tasks.MeasureAll version runs) = AreBoundedRuns runs
+IsLimitedTask (tasks.WriteProgram image) = length image.segments ≤ 64
+IsLimitedTask (tasks.ListProgram image) = Unit {0}
+IsLimitedTask (tasks.VerifyCertificate certificate) = Unit {0}
+IsLimitedTask (tasks.MigrateCut cut) = Unit {0}
+IsLimitedTask (tasks.TryNumber number) = Unit {0}

@@ -100,6 +100,13 @@ pub record IsCutFilesRefusal (names : GuestNames) (files : List (List ℕ)) (ref
       IsGuestRefusal guest_files refusal
       ⊎ ((guest : Guest) × IsGuest guest_files guest × IsCutRefusal cut_file refusal)
 
+-- what is wrong with the files of a guest and secrets: the first fault of the guest
+pub record IsGuestFilesRefusal (names : GuestNames) (files : List (List ℕ)) (refusal : Refusal) : Type 0 where
+  pub guest_files : GuestFiles
+  pub secrets : List (List ℕ)
+  pub are : AreGuestFiles names files guest_files [] secrets
+  pub first : IsGuestRefusal guest_files refusal
+
 -- the files of a bound, which are well formed, and are this task
 pub record IsAllSecretsTask (all : AllSecrets) (files : List (List ℕ)) (task : AllSecretsTask) : Type 0 where
   pub guest_files : GuestFiles
@@ -121,13 +128,6 @@ pub record IsRunTask (run : Run) (files : List (List ℕ)) (task : RunTask) : Ty
   pub turns : task.turns ≡ run.turns
   pub table : task.table ≡ run.table
 
--- what is wrong with them
-pub record IsRunFilesRefusal (run : Run) (files : List (List ℕ)) (refusal : Refusal) : Type 0 where
-  pub guest_files : GuestFiles
-  pub secret : List ℕ
-  pub are : AreGuestFiles run.guest files guest_files [] (secret ∷ [])
-  pub first : IsGuestRefusal guest_files refusal
-
 -- the files of several runs, which are well formed, and are this task
 pub record IsManyRunsTask (runs : ManyRuns) (files : List (List ℕ)) (task : ManyRunsTask) : Type 0 where
   pub guest_files : GuestFiles
@@ -135,13 +135,6 @@ pub record IsManyRunsTask (runs : ManyRuns) (files : List (List ℕ)) (task : Ma
   pub guest : IsGuest guest_files task.guest
   pub turns : task.turns ≡ runs.turns
   pub table : task.table ≡ runs.table
-
--- what is wrong with them
-pub record IsManyRunsRefusal (runs : ManyRuns) (files : List (List ℕ)) (refusal : Refusal) : Type 0 where
-  pub guest_files : GuestFiles
-  pub secrets : List (List ℕ)
-  pub are : AreGuestFiles runs.guest files guest_files [] secrets
-  pub first : IsGuestRefusal guest_files refusal
 
 -- The files of a command are well formed, and with its words they are this task.
 abbrev pub IsTaskOf : Command → List (List ℕ) → Task → Type 0
@@ -167,8 +160,8 @@ IsTaskOf (Tries number) files task = task ≡ TryNumber number
 abbrev pub IsFormRefusal : Command → List (List ℕ) → Refusal → Type 0
 IsFormRefusal (Checks check) files refusal = IsCutFilesRefusal check.guest files refusal
 IsFormRefusal (Bounds all) files refusal = IsCutFilesRefusal all.guest files refusal
-IsFormRefusal (TellsOf telling run) files refusal = IsRunFilesRefusal run files refusal
-IsFormRefusal (MeasuresAll version runs) files refusal = IsManyRunsRefusal runs files refusal
+IsFormRefusal (TellsOf telling run) files refusal = IsGuestFilesRefusal run.guest files refusal
+IsFormRefusal (MeasuresAll version runs) files refusal = IsGuestFilesRefusal runs.guest files refusal
 IsFormRefusal (Assembles source) files refusal =
     (file : List ℕ) × (files ≡ file ∷ []) × IsSourceRefusal file refusal
 IsFormRefusal (Lists program) files refusal = (file : List ℕ) × (files ≡ file ∷ []) × IsProgramRefusal file refusal

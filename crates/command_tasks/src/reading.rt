@@ -9,14 +9,14 @@ ghost use Rattle.rv32im_asm.specs.Assembling.{assembled};
 ghost use Rattle.command_line.specs.Words.{all_secrets_of, check_of, command_of, guest_of, many_runs_of, run_of};
 ghost use Rattle.command_tasks.specs.Guests.{AreRegions, IsGuest, IsGuestRefusal, guest_wants};
 ghost use Rattle.command_tasks.specs.Loading.{AreWithin, want};
-ghost use Rattle.command_tasks.specs.ReadTasks.{IsBounded, IsBoundedCheck, IsBoundedRun, check_in, guest_in};
+ghost use Rattle.command_tasks.specs.ReadTasks.{IsBoundedCheck, IsBoundedRun, IsLimitedTask, check_in, guest_in};
 ghost use Rattle.command_tasks.specs.ReadTasks.{IsBoundedAll, all_secrets_in, AreBoundedRuns, many_runs_in, run_in};
 ghost use Rattle.command_tasks.specs.ReadTasks.{task_in};
 ghost use Rattle.command_tasks.specs.Private.LoadedFiles.{files_in};
 ghost use Rattle.command_tasks.specs.Refusals.{IsCertificateRefusal, IsCutRefusal, IsProgramRefusal, IsRegionsRefusal};
 ghost use Rattle.command_tasks.specs.Refusals.{IsSourceRefusal};
 ghost use Rattle.command_tasks.specs.Tasks.{IsAllSecretsTask, IsCheckTask, IsCutFilesRefusal, IsFormRefusal};
-ghost use Rattle.command_tasks.specs.Tasks.{IsRunFilesRefusal, IsManyRunsRefusal, IsManyRunsTask, IsRunTask, IsTaskOf};
+ghost use Rattle.command_tasks.specs.Tasks.{IsGuestFilesRefusal, IsManyRunsTask, IsRunTask, IsTaskOf};
 ghost use Rattle.command_tasks.specs.Tasks.{wants_of};
 ghost use Rattle.command_tasks.specs.CertificateFiles.{IsCertificate};
 ghost use Rattle.command_tasks.specs.declared.kinds.FileKind.TheVariants as kinds;
@@ -158,7 +158,7 @@ fn read_run<'a>(alloc: Global, run: &RunWords, files: &'a [Bytes]) -> Result<Run
     requires within { AreWithin (guest_wants (guest_of run.now.guest) [] (run.now.secret.now ∷ [])) files.now }
     ensures ok { IfOk result (λ task. IsRunTask (run_of run.now) files.entry.now (run_in task)) }
     ensures bounded { IfOk result (λ task. IsBoundedRun task) }
-    ensures err { IfErr result (λ refusal. refusal ≢ Memory → IsRunFilesRefusal (run_of run.now) files.entry.now
+    ensures err { IfErr result (λ refusal. refusal ≢ Memory → IsGuestFilesRefusal (guest_of run.now.guest) files.entry.now
         refusal) }
 {
     let (guest, secret) = files_of_run(run, files);
@@ -180,7 +180,7 @@ fn read_many_runs<'a>(
     requires within { AreWithin (guest_wants (guest_of runs.now.guest) [] (many_runs_of runs.now).secrets) files.now }
     ensures ok { IfOk result (λ task. IsManyRunsTask (many_runs_of runs.now) files.entry.now (many_runs_in task)) }
     ensures bounded { IfOk result (λ task. AreBoundedRuns task) }
-    ensures err { IfErr result (λ refusal. refusal ≢ Memory → IsManyRunsRefusal (many_runs_of runs.now) files.entry.now
+    ensures err { IfErr result (λ refusal. refusal ≢ Memory → IsGuestFilesRefusal (guest_of runs.now.guest) files.entry.now
         refusal) }
 {
     let (guest, secrets) = files_of_many_runs(runs, files);
@@ -201,7 +201,7 @@ pub fn read_task<'a>(
 ) -> Result<Task<'a>, Refusal>
     requires within { AreWithin (wants_of (command_of command.now)) files.now }
     ensures ok { IfOk result (λ task. IsTaskOf (command_of command.now) files.entry.now (task_in task)) }
-    ensures bounded { IfOk result (λ task. IsBounded task) }
+    ensures bounded { IfOk result (λ task. IsLimitedTask task) }
     ensures err { IfErr result (λ refusal. refusal ≢ Memory → IsFormRefusal (command_of command.now) files.entry.now
         refusal) }
 {

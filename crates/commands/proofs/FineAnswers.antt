@@ -32,11 +32,10 @@ use Rattle.task_answers.specs.Trials.{TellsTrial, run_of_number}
 use Rattle.task_answers.specs.TaskAnswers.{AnswersTask}
 use Rattle.task_answers.specs.Verifications.{verdict_reply}
 use Rattle.commands.specs.Lines.{IsOneLine}
-use Rattle.commands.specs.Replies.{AnswersCommand, AnswersFiles}
 use Rattle.commands.proofs.OneLine.{Clean, literal, joined, cut_fault, region, program, run_fault, many_fault}
 use Rattle.commands.proofs.OneLine.{learn_fault, source_fault, form_fault, name, number}
 use Rattle.commands.proofs.FormStatuses.{form_status}
-use Rattle.commands.proofs.Readings.{status_of}
+use Rattle.commands.proofs.Readings.{AnswersCommand, AnswersFiles, status_of}
 
 -- ---- refusals
 

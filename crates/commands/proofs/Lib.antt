@@ -2,6 +2,6 @@ pub mod OneLine
 pub mod Readings
 pub mod FormStatuses
 pub mod FineAnswers
-pub mod HeldFiles
+pub mod ShortSecrets
 pub mod Headlines
 pub mod WholeReplies

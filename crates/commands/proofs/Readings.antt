@@ -1,12 +1,17 @@
 -- What is read is one thing, and where it is, nothing is wrong with it: so the answers to it are one, and are those to
 -- what it is known to be.
-use Rattle.std.proofs.Common.{◌≡◌, ◌≤◌, ◌<◌, ◌∙◌, inl, inr, ℕ, List, Err, sym, ap, subst, arith}
-use Rattle.command_line.specs.CommandLines.{Command, IsCommand}
+use Rattle.std.proofs.Common.{◌≡◌, ◌≤◌, ◌<◌, ◌∙◌, inl, inr, ℕ, List, Option, Ok, Err, sym, ap, subst, arith}
+use Rattle.flow_base.specs.Loads.{Told}
+use Rattle.command_line.specs.CommandLines.{Command, IsCommand, IsNoCommand}
 use Rattle.command_line.proofs.OneCommand.{one_command}
 use Rattle.command_tasks.specs.declared.refusals.Refusal.{Refusal}
+use Rattle.command_tasks.specs.declared.refusals.Refusal.TheVariants.{Usage}
+use Rattle.command_tasks.specs.Loading.{Loads}
 use Rattle.command_tasks.specs.Statuses.{status_number}
+use Rattle.command_tasks.specs.Tasks.{IsFormRefusal, IsTaskOf, wants_of}
 use Rattle.task_answers.specs.Answers.{Answer, Reads, told}
-use Rattle.commands.specs.Replies.{IsUsage}
+use Rattle.task_answers.specs.TaskAnswers.{AnswersTask}
+use Rattle.commands.specs.Replies.{AnswersWords}
 
 -- the status that an answer is told with
 abbrev pub status_of : Answer → ℕ
@@ -56,6 +61,33 @@ reads_low A Is IsRefused Answers high answer low (inl (refusal, refused, e)) =
 reads_low A Is IsRefused Answers high answer low (inr (it, is, answers)) = (it, is, answers)
 
 -- ---- words
+
+-- the answer of a command to its files
+abbrev pub AnswersFiles : Command → List (List ℕ) → Answer → Type 0
+AnswersFiles command files answer = Reads (IsTaskOf command files) (IsFormRefusal command files) AnswersTask answer
+
+-- the answer of a command to what its loads give
+abbrev pub AnswersCommand : Option Told → Command → Answer → Type 0
+AnswersCommand source command answer =
+    Reads (λ files. Loads source (wants_of command) (Ok files))
+    (λ refusal. Loads source (wants_of command) (Err refusal)) (AnswersFiles command) answer
+
+abbrev pub IsUsage : List (List ℕ) → Refusal → Type 0
+IsUsage words refusal = IsNoCommand words × (refusal ≡ Usage)
+
+-- the answer to words, read step by step
+abbrev pub ReadsWords : Option Told → List (List ℕ) → Answer → Type 0
+ReadsWords source words answer = Reads (IsCommand words) (IsUsage words) (AnswersCommand source) answer
+
+pub reads_words : (source : Option Told) (words : List (List ℕ)) (answer : Answer) →
+    AnswersWords source words answer → ReadsWords source words answer
+reads_words source words answer (inl (refusal, inl (none, u), e)) = inl (refusal, (none, u), e)
+reads_words source words answer (inl (refusal, inr (command, named, inl loads), e)) =
+    inr (command, named, inl (refusal, loads, e))
+reads_words source words answer (inl (refusal, inr (command, named, inr (files, loads, form)), e)) =
+    inr (command, named, inr (files, loads, inl (refusal, form, e)))
+reads_words source words answer (inr it) =
+    inr (it.command, it.named, inr (it.files, it.loads, inr (it.task, it.spelled, it.answers)))
 
 pub words_reading : (words : List (List ℕ)) → IsReading Command (IsCommand words) (IsUsage words)
 words_reading words = record {

@@ -1,57 +1,58 @@
 -- What the top call's contract says of its reply, of what is put, and of the counts of faults.
 use Rattle.std.specs.Prelude.{◌≡◌, ◌≢◌, ◌⊎◌, ◌↔◌, ℕ, ◌≤◌, List, [], ◌∷◌, length, take, Option, option_map}
+use Rattle.cut_file.specs.Pictures.{cut_picture}
 use Rattle.flow_base.specs.Counts.{Rose}
 use Rattle.flow_base.specs.Loads.{Told}
 use Rattle.flow_base.specs.Puts.{Taken, after_put}
-use Rattle.command_line.specs.declared.judgings.Judging.{Judging}
-use Rattle.command_line.specs.declared.judgings.Judging.TheVariants.{Replay, Masks}
+use Rattle.many_runs.specs.declared.many.Many.{Many}
+use Rattle.measuring.specs.declared.measured.Measured.{Measured}
 use Rattle.command_line.specs.declared.tellings.Telling.{Telling}
 use Rattle.command_line.specs.declared.tellings.Telling.TheVariants.{CutText, Certificate, Report, Declaration}
-use Rattle.command_line.specs.CommandLines.{Check, Run, Command, Checks, Bounds, Tells, MeasuresAll, Assembles, Lists, Verifies, Migrates, Tries}
-use Rattle.command_line.specs.CommandLines.{IsCommand, IsNoCommand}
-use Rattle.commands.specs.BoundHeadline.{BoundHeadline}
-use Rattle.commands.specs.CleanHeadline.{CleanHeadline}
+use Rattle.command_line.specs.CommandLines.{IsNoCommand}
+use Rattle.command_tasks.specs.Tasks.{RunTask, Task, JudgeSecrets, BoundAll, TellRun, MeasureAll, WriteProgram}
+use Rattle.command_tasks.specs.Tasks.{ListProgram, VerifyCertificate, MigrateCut, TryNumber}
+use Rattle.task_answers.specs.Checks.{judged_by}
+use Rattle.task_answers.specs.CutTexts.{IsCutText}
+use Rattle.task_answers.specs.ManyRuns.{AreMeasured}
+use Rattle.task_answers.specs.Runs.{IsMeasured}
 use Rattle.commands.specs.Headline.{Headline}
-use Rattle.commands.specs.LearntHeadline.{LearntHeadline}
 use Rattle.commands.specs.Lines.{IsOneLine}
-use Rattle.commands.specs.MeasuredHeadline.{IsGraphOfRun, IsGraphOfRuns, MeasuredHeadline}
-use Rattle.commands.specs.Replies.{Reply, Replies}
+use Rattle.commands.specs.MeasuredHeadline.{MeasuredHeadline}
+use Rattle.commands.specs.Replies.{IsAnswered, Replies, Reply}
 
--- a judgement of secrets carries the headline of the machines that judge
-abbrev pub JudgingCarries : Option Told → Judging → Check → Reply → Type 0
-JudgingCarries source Replay check reply = Headline source check reply
-JudgingCarries source (Masks table) check reply = CleanHeadline source table check reply
+-- a cut that is told of a run carries the headline of measured runs, whatever is measured of the run and printed
+abbrev pub TellingCarries : Telling → RunTask → List ℕ → Type 0
+TellingCarries (CutText version) run text =
+    (measured : Measured) → IsMeasured run measured → (printed : IsCutText version (cut_picture measured.cut) text)
+    → MeasuredHeadline run.guest (run.secret ∷ []) run.turns measured.value printed.cut text
+TellingCarries Certificate run text = Unit {0}
+TellingCarries (Report json) run text = Unit {0}
+TellingCarries Declaration run text = Unit {0}
 
--- what is told of a run carries the headline of measured runs where it is a cut, and that of a learnt declaration
-abbrev pub TellingCarries : Option Told → Telling → Run → Reply → Type 0
-TellingCarries source (CutText version) run reply =
-    MeasuredHeadline IsGraphOfRun source run.guest (run.secret ∷ []) (record { turns = run.turns; table = run.table }) reply
-TellingCarries source Certificate run reply = Unit {0}
-TellingCarries source (Report json) run reply = Unit {0}
-TellingCarries source Declaration run reply = LearntHeadline source run reply
-
--- the headline that a command carries
-abbrev pub Carries : Option Told → Command → Reply → Type 0
-Carries source (Checks check) reply = JudgingCarries source check.judging check reply
-Carries source (Bounds all) reply = BoundHeadline source all reply
-Carries source (Tells telling run) reply = TellingCarries source telling run reply
-Carries source (MeasuresAll version runs) reply =
-    MeasuredHeadline IsGraphOfRuns source runs.guest runs.secrets
-    (record { turns = runs.turns; table = runs.table }) reply
-Carries source (Assembles file) reply = Unit {0}
-Carries source (Lists file) reply = Unit {0}
-Carries source (Verifies file) reply = Unit {0}
-Carries source (Migrates file) reply = Unit {0}
-Carries source (Tries number) reply = Unit {0}
+-- the headline that a task and its text carry, beside what the answer to the task says
+abbrev pub Carries : Task → List ℕ → Type 0
+Carries (JudgeSecrets check) text = Headline (judged_by check.guest check.cut) check.limits
+Carries (BoundAll all) text = Unit {0}
+Carries (TellRun telling run) text = TellingCarries telling run text
+Carries (MeasureAll version runs) text =
+    (many : Many) → AreMeasured runs many → (printed : IsCutText version (cut_picture many.cut) text)
+    → MeasuredHeadline runs.guest runs.secrets runs.turns many.value printed.cut text
+Carries (WriteProgram picture) text = Unit {0}
+Carries (ListProgram picture) text = Unit {0}
+Carries (VerifyCertificate graph solved) text = Unit {0}
+Carries (MigrateCut cut) text = Unit {0}
+Carries (TryNumber number) text = Unit {0}
 
 -- The reply to words, by what the file source tells: its status is 2 exactly where they are no command line, its text is
--- one line where it tells a refusal, and it carries the headline of its command where the command is done.
+-- one line where it tells a refusal, with status 0 or 1 the words are answered, and the text of an answer carries the
+-- headline of its task.
 pub record IsReply (source : Option Told) (words : List (List ℕ)) (reply : Reply) : Type 0 where
   pub replies : Replies source words reply
   pub usage : (reply.status ≡ 2) ↔ IsNoCommand words
   pub low : reply.status ≤ 6
   pub line : 2 ≤ reply.status → IsOneLine reply.text
-  pub headline : (command : Command) → IsCommand words command → reply.status ≤ 1 → Carries source command reply
+  pub answered : reply.status ≤ 1 → IsAnswered source words replies.answer
+  pub headline : (it : IsAnswered source words replies.answer) → Carries it.task reply.text
 
 -- What is put of a reply, and the status that says so: the whole text with the reply's own status, or a first part of it
 -- with 7, where the put failed.

@@ -23,8 +23,8 @@ use Rattle.acceptance_law.proofs.CutVisits.{like_itself, mask_missing}
 use Rattle.acceptance_law.proofs.ProperRuns.{proper_events_law}
 use Rattle.acceptance_law.proofs.ProperStarts.{guest_start_law}
 use Rattle.many_runs.specs.declared.many.Many.{Many}
-use Rattle.many_runs.specs.Accepting.{AreAcceptedByFolds, AreAcceptedByTheCut, IsAcceptedBy}
-use Rattle.many_runs.specs.Measures.{AreRunsOn, HaveLength, MeasuresAll, Setup, first_length}
+use Rattle.many_runs.specs.Accepting.{AreAcceptedByFolds, AreAcceptedByTheCut, HasAccepted}
+use Rattle.many_runs.specs.Measures.{AreRunsOn, HaveLength, MeasuresTogether, Setup, first_length}
 use Rattle.many_runs.proofs.ManyCovered.{CutsAll, IsUsed, run-accepted}
 use Rattle.many_runs.proofs.MasksOfRuns.{IsPartOf, parts_of}
 
@@ -82,7 +82,7 @@ all_proper setup (secret ∷ secrets) (events ∷ runs) inputs are = (
   all_proper setup secrets runs inputs.1 are.1,
 )
 
-module _ (setup : Setup) (all_secrets : List (List ℕ)) (many : Many) (m : MeasuresAll setup all_secrets many)
+module _ (setup : Setup) (all_secrets : List (List ℕ)) (many : Many) (m : MeasuresTogether setup all_secrets many)
     (inputs : AllByRecursion (AreInputs setup.program setup.public_input setup.regions) all_secrets) where
   cuts-all : CutsAll m.runs m.events many.graph many.side.points many.side.relays (first_length all_secrets)
       (cut_picture many.cut)
@@ -101,7 +101,8 @@ module _ (setup : Setup) (all_secrets : List (List ℕ)) (many : Many) (m : Meas
       AllByRecursion (AreInputs setup.program setup.public_input setup.regions) secrets →
       HaveLength (first_length all_secrets) secrets → AreRunsOn setup secrets runs →
       AllByRecursion (IsPartOf m.runs) runs →
-      AllByRecursion (IsAcceptedBy setup.program setup.public_input setup.regions used many.value setup.limit) secrets
+      AllByRecursion (HasAccepted (task_of setup.program setup.public_input setup.regions used)
+      (record { budget = many.value; turns = setup.limit })) secrets
   unfolding AreRunsOn
   each-accepted used is_used [] [] known alike are parts = tt
   each-accepted used is_used [] (events ∷ runs) known alike are parts = absurd are

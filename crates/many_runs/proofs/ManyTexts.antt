@@ -10,10 +10,10 @@ use Rattle.acceptance_law.specs.RunCuts.{IsCutOf}
 use Rattle.acceptance_law.specs.RunLaws.{HasFewRuns}
 use Rattle.acceptance_law.specs.Sides.{named_side}
 use Rattle.acceptance_law.proofs.FewRuns.{few_runs_law}
+use Rattle.measuring.specs.Accepting.{HasShortText}
 use Rattle.measuring.proofs.ShortTexts.{skip_few}
 use Rattle.many_runs.specs.declared.many.Many.{Many}
-use Rattle.many_runs.specs.Accepting.{HasShortText}
-use Rattle.many_runs.specs.Measures.{MeasuresAll, Setup, first_length}
+use Rattle.many_runs.specs.Measures.{MeasuresTogether, Setup, first_length}
 
 bound_small : (bits : ℕ) (cut : CutPicture) → is_cut_picture cut ≡ true → bits ≤ 1048576 → length cut.points ≤ 65536 →
     HasFewRuns bits cut → byte_bound cut ≤ 67108864
@@ -22,7 +22,8 @@ bound_small bits cut valid small few_points few =
     let runs : listed_runs cut.points ≤ 2 * bits + length cut.points = few.runs in
     omega (arith, skip, small, few_points, runs)
 
-pub short : (setup : Setup) (secrets : _) (many : Many) → MeasuresAll setup secrets many → HasShortText many
+pub short : (setup : Setup) (secrets : _) (many : Many) → MeasuresTogether setup secrets many →
+    HasShortText (cut_picture many.cut)
 short setup secrets many m =
     let cut = cut_picture many.cut in
     let valid = cut_valid many.cut in

@@ -4,18 +4,18 @@ use Rattle.many_runs.specs.declared.faults.ManyFault.TheVariants.{Length, Run, U
 use Rattle.many_runs.specs.declared.many.Many.{Many}
 use Rattle.many_runs.specs.Causes.{HasMaximum, HaveUnion, IsTooLarge, IsTooMuch}
 use Rattle.many_runs.specs.Deciding.{MeasuredTogetherHaveNoCause}
-use Rattle.many_runs.specs.Measures.{MeasuresAll, Setup}
+use Rattle.many_runs.specs.Measures.{MeasuresTogether, Setup}
 use Rattle.many_runs.proofs.OneMany.{none-refused, same_length, value_most, within-too}
 use Rattle.transfer_rules.specs.Tables.{IsDeciding}
 
 -- ---- what is measured together
 
-union_of : (setup : Setup) (secrets : List (List ℕ)) (many : Many) (m : MeasuresAll setup secrets many) →
+union_of : (setup : Setup) (secrets : List (List ℕ)) (many : Many) (m : MeasuresTogether setup secrets many) →
     HaveUnion setup secrets m.events
 union_of setup secrets many m =
     record { alike = m.alike; runs = m.runs; are_runs = m.are_runs; united = m.united }
 
-maximum_of : (setup : Setup) (secrets : List (List ℕ)) (many : Many) (m : MeasuresAll setup secrets many) →
+maximum_of : (setup : Setup) (secrets : List (List ℕ)) (many : Many) (m : MeasuresTogether setup secrets many) →
     HasMaximum m.events many.value
 maximum_of setup secrets many m = record {
   graph = many.graph;
@@ -30,13 +30,13 @@ maximum_of setup secrets many m = record {
 -- ---- the law
 
 too_large : (setup : Setup) (secrets : List (List ℕ)) (many : Many) → IsDeciding setup.table →
-    MeasuresAll setup secrets many → IsTooLarge setup secrets → ⊥
+    MeasuresTogether setup secrets many → IsTooLarge setup secrets → ⊥
 too_large setup secrets many deciding m large =
     m.measure.within
     (within-too setup secrets deciding m.events large.events (union_of setup secrets many m) large.union large.exceeds)
 
 too_much : (setup : Setup) (secrets : List (List ℕ)) (many : Many) (value : ℕ) → IsDeciding setup.table →
-    MeasuresAll setup secrets many → IsTooMuch setup secrets value → ⊥
+    MeasuresTogether setup secrets many → IsTooMuch setup secrets value → ⊥
 too_much setup secrets many value deciding m much =
     let most : value ≤ many.value =
     value_most setup secrets deciding much.events m.events value many.value much.union (union_of setup secrets many m)

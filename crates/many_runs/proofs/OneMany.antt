@@ -14,13 +14,13 @@ use Rattle.measuring.specs.declared.measured.Measured.{Measured}
 use Rattle.measuring.specs.Measures.{HasCause, IsMeasureOf}
 use Rattle.measuring.proofs.OneCause.{one_cause}
 use Rattle.measuring.proofs.OneGraph.{one_graph}
-use Rattle.measuring.proofs.OneMeasure.{AreSameGraphs, one_measure_of}
+use Rattle.measuring.proofs.OneMeasure.{AreSameGraphs, IsMeasuredOf, one_measure_of}
 use Rattle.many_runs.specs.declared.faults.ManyFault.{ManyFault}
 use Rattle.many_runs.specs.declared.faults.ManyFault.TheVariants.{Length, Run, UnitedLimit, BudgetLimit, Memory}
 use Rattle.many_runs.specs.declared.many.Many.{Many}
 use Rattle.many_runs.specs.Causes.{HasManyCause, HasMaximum, HasOtherLength, HaveUnion}
 use Rattle.many_runs.specs.Causes.{IsFirstRefused, IsTooLarge, IsTooMuch}
-use Rattle.many_runs.specs.Measures.{HaveLength, IsMeasureOfAll, MeasuresAll, Setup, first_length, start_on}
+use Rattle.many_runs.specs.Measures.{HaveLength, MeasuresTogether, Setup, first_length, start_on}
 use Rattle.many_runs.specs.Uniting.{IsUnited}
 use Rattle.many_runs.proofs.FirstPlaces.{AreSamePlaces, one_first}
 use Rattle.many_runs.proofs.OneUnion.{HasRun, cut-too, exceeds-too, graph-too, have_runs, no_cause, same_runs}
@@ -45,25 +45,19 @@ as_one many = record {
   known = many.known;
 }
 
-measure_as_one : (secret_len : ℕ) (events : List Event) (many : Many) → IsMeasureOfAll secret_len events many →
-    IsMeasureOf secret_len events (as_one many)
+-- what is measured of several runs is the measure of events
+abbrev IsMeasuredOfAll : ℕ → List Event → Many → Type 0
+IsMeasuredOfAll secret_len events many =
+    IsMeasureOf secret_len events many.graph many.value many.flow many.side (cut_picture many.cut)
+
+measure_as_one : (secret_len : ℕ) (events : List Event) (many : Many) → IsMeasuredOfAll secret_len events many →
+    IsMeasuredOf secret_len events (as_one many)
 unfolding as_one
-measure_as_one secret_len events many is = record {
-  graph = is.graph;
-  within = is.within;
-  flow = is.flow;
-  value = is.value;
-  greatest = is.greatest;
-  points_most = is.points_most;
-  links_most = is.links_most;
-  side = is.side;
-  capacity = is.capacity;
-  cut = is.cut;
-}
+measure_as_one secret_len events many is = is
 
 -- other united events of the same runs have the same measure
 measure_too : (runs : List (List Event)) (events others : List Event) → IsUnited runs events → IsUnited runs others →
-    (secret_len : ℕ) (many : Many) → IsMeasureOfAll secret_len others many → IsMeasureOfAll secret_len events many
+    (secret_len : ℕ) (many : Many) → IsMeasuredOfAll secret_len others many → IsMeasuredOfAll secret_len events many
 measure_too runs events others one also secret_len many is = record {
   graph = graph-too runs events others one also many.graph is.graph;
   within = λ exceeds. is.within (exceeds-too runs others events also one exceeds);
@@ -87,12 +81,12 @@ pub record AreSameMany (one other : Many) : Type 0 where
   pub cut : cut_picture one.cut ≡ cut_picture other.cut
 
 pub one_many_measure : (setup : Setup) (secrets : List (List ℕ)) (one other : Many) → IsDeciding setup.table →
-    MeasuresAll setup secrets one → MeasuresAll setup secrets other → AreSameMany one other
+    MeasuresTogether setup secrets one → MeasuresTogether setup secrets other → AreSameMany one other
 unfolding as_one
 one_many_measure setup secrets one other deciding is also =
     let same = same_runs setup secrets also.runs is.runs deciding also.are_runs is.are_runs in
     let united : IsUnited is.runs also.events = subst (λ runs. IsUnited runs also.events) same also.united in
-    let measure : IsMeasureOfAll (first_length secrets) is.events other =
+    let measure : IsMeasuredOfAll (first_length secrets) is.events other =
     measure_too is.runs is.events also.events is.united united (first_length secrets) other also.measure in
     let parts : AreSameGraphs (as_one one) (as_one other) =
     one_measure_of (first_length secrets) is.events (as_one one) (as_one other)
@@ -101,7 +95,7 @@ one_many_measure setup secrets one other deciding is also =
     record { value = parts.value; graph = parts.graph; side = parts.side; cut = parts.cut }
 
 pub one_many : (setup : Setup) (secrets : List (List ℕ)) (one other : Many) → IsDeciding setup.table →
-    MeasuresAll setup secrets one → MeasuresAll setup secrets other → cut_picture one.cut ≡ cut_picture other.cut
+    MeasuresTogether setup secrets one → MeasuresTogether setup secrets other → cut_picture one.cut ≡ cut_picture other.cut
 one_many setup secrets one other deciding is also = (one_many_measure setup secrets one other deciding is also).cut
 
 -- ---- the cause in the secrets

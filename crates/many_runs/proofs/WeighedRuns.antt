@@ -9,7 +9,7 @@ use Rattle.many_runs.specs.declared.faults.ManyFault.TheVariants.{Length, Run, U
 use Rattle.many_runs.specs.declared.many.Many.{Many}
 use Rattle.many_runs.specs.Causes.{HasManyCause}
 use Rattle.many_runs.specs.Following.{AreFollowed, is_short_secret}
-use Rattle.many_runs.specs.Measures.{HaveLength, MeasuresAll, Setup, first_length}
+use Rattle.many_runs.specs.Measures.{HaveLength, MeasuresTogether, Setup, first_length}
 use Rattle.many_runs.specs.Private.Recordings.{AllKeep, RecordsUnion}
 use Rattle.many_runs.specs.Private.Weighing.{HasFittingEvents, IsWeighFault, WeighsAll}
 use Rattle.many_runs.proofs.FittingRuns.{runs_fit}
@@ -32,7 +32,7 @@ module _ (setup : Setup) (secrets : List (List ℕ)) (recordings : List Recordin
       }
 
   pub weighed : (many : Many) → WeighsAll union (first_length secrets) many → many.value ≤ 1048576 →
-      MeasuresAll setup secrets many
+      MeasuresTogether setup secrets many
   weighed many weighs budget =
       let all = unites are.kept are.keep in
       record {

@@ -1,16 +1,13 @@
 -- What is measured of several runs together.
 use Rattle.std.specs.Prelude.{◌≡◌, ◌≤◌, ℕ, List, [], ◌∷◌, length}
 use Rattle.std.specs.List.{AllByRecursion}
-use Rattle.acceptance_law.specs.RunCuts.{IsCutOf}
-use Rattle.acceptance_law.specs.Sides.{named_side}
 use Rattle.cut_file.specs.Pictures.{cut_picture}
 use Rattle.elf32_loader.specs.Pictures.{Picture}
 use Rattle.enclosure_regions.specs.declared.region_parts.Region.{Region}
 use Rattle.flow_base.specs.declared.outputs.Output.{Output}
 use Rattle.flow_graph.specs.declared.events.Event.{Event}
-use Rattle.flow_graph.specs.EventGraphs.{IsGraphOf}
 use Rattle.location_collapse.specs.Limits.{ExceedsLimit}
-use Rattle.max_flow.specs.Flows.{AreAtMost, HasNoGreater, IsFlowOf, Least, flow_value, side_capacity}
+use Rattle.measuring.specs.Measures.{IsMeasureOf}
 use Rattle.measuring.specs.RunCauses.{Exits}
 use Rattle.region_machine.specs.Starts.{guest}
 use Rattle.run_labels.specs.Runs.{LabelledRun, run_after, unlabelled}
@@ -62,28 +59,13 @@ first_length (secret ∷ secrets) = length secret
 abbrev pub HaveLength : ℕ → List (List ℕ) → Type 0
 HaveLength secret_len secrets = AllByRecursion (λ (secret : List ℕ). length secret ≡ secret_len) secrets
 
--- the graph of united events, which exceeds no limit, a maximum flow of it, no part of which exceeds its value, its least
--- minimum side, and the cut of that side
-pub record IsMeasureOfAll (secret_len : ℕ) (events : List Event) (many : Many) : Type 0 where
-  pub graph : IsGraphOf events many.graph
-  pub within : ¬ ExceedsLimit events
-  pub flow : IsFlowOf many.graph many.flow.points many.flow.links
-  pub value : flow_value many.graph many.flow.points many.flow.links ≡ many.value
-  pub greatest : HasNoGreater many.graph many.value
-  pub points_most : AreAtMost many.value many.flow.points
-  pub links_most : AreAtMost many.value many.flow.links
-  pub side : Least many.graph many.side.points many.side.relays
-  pub capacity : side_capacity many.graph many.side.points many.side.relays ≡ many.value
-  pub cut : IsCutOf secret_len events (named_side many.graph many.side.points many.side.relays) many.value
-      (cut_picture many.cut)
-
 -- the runs on all secrets, which have one length, exit within the limit, and this is the measure of them all, whose value
 -- is within the limit of a budget
-pub record MeasuresAll (setup : Setup) (secrets : List (List ℕ)) (many : Many) : Type 0 where
+pub record MeasuresTogether (setup : Setup) (secrets : List (List ℕ)) (many : Many) : Type 0 where
   pub alike : HaveLength (first_length secrets) secrets
   pub runs : List (List Event)
   pub are_runs : AreRunsOn setup secrets runs
   pub events : List Event
   pub united : IsUnited runs events
-  pub measure : IsMeasureOfAll (first_length secrets) events many
+  pub measure : IsMeasureOf (first_length secrets) events many.graph many.value many.flow many.side (cut_picture many.cut)
   pub budget : many.value ≤ 1048576

@@ -1,12 +1,14 @@
 ghost use Rattle.std.specs.Prelude.{◌≡◌, ◌<◌, ◌≤◌, IfErr, IfOk, length, true};
 ghost use Rattle.std.specs.List.{AllByRecursion, list_all};
 ghost use Rattle.acceptance_law.specs.MeasuredLaws.{AreInputs};
+ghost use Rattle.cut_file.specs.Pictures.{cut_picture};
 ghost use Rattle.elf32_loader.specs.Images.{image_picture};
 ghost use Rattle.enclosure_regions.specs.Regions.{are_regions};
-ghost use Rattle.many_runs.specs.Accepting.{AreAcceptedByFolds, AreAcceptedByTheCut, HasShortText};
+ghost use Rattle.measuring.specs.Accepting.{HasShortText};
+ghost use Rattle.many_runs.specs.Accepting.{AreAcceptedByFolds, AreAcceptedByTheCut};
 ghost use Rattle.many_runs.specs.Causes.{HasManyCause};
 ghost use Rattle.many_runs.specs.Following.{is_short_secret};
-ghost use Rattle.many_runs.specs.Measures.{MeasuresAll, setup_of};
+ghost use Rattle.many_runs.specs.Measures.{MeasuresTogether, setup_of};
 
 use crate::faults::ManyFault;
 use crate::following_all::{common_length, record_runs};
@@ -45,7 +47,7 @@ fn measure_runs(
     requires short { list_all is_short_secret secrets.now ≡ true }
     requires regions { are_regions regions.now.items ≡ true }
     requires turns { turns ≤ 20000000 }
-    ensures ok { IfOk result (λ many. MeasuresAll
+    ensures ok { IfOk result (λ many. MeasuresTogether
         (setup_of book.now.table (image_picture image.now) public.now regions.now.items turns) secrets.now many) }
     ensures err { IfErr result (λ fault. HasManyCause
         (setup_of book.now.table (image_picture image.now) public.now regions.now.items turns) secrets.now fault) }
@@ -80,7 +82,7 @@ pub fn measure_all(
     requires few { length secrets.now ≤ 64 }
     requires short { list_all is_short_secret secrets.now ≡ true }
     requires turns { turns ≤ 20000000 }
-    ensures ok { IfOk result (λ many. MeasuresAll
+    ensures ok { IfOk result (λ many. MeasuresTogether
         (setup_of book.now.table (image_picture image.now) public.now regions.now.items turns) secrets.now many) }
     ensures err { IfErr result (λ fault. HasManyCause
         (setup_of book.now.table (image_picture image.now) public.now regions.now.items turns) secrets.now fault) }
@@ -88,7 +90,7 @@ pub fn measure_all(
         AreAcceptedByTheCut (image_picture image.now) public.now regions.now.items secrets.now turns many) }
     ensures folds { IfOk result (λ many.
         AreAcceptedByFolds (image_picture image.now) public.now regions.now.items secrets.now turns many) }
-    ensures short { IfOk result (λ many. HasShortText many) }
+    ensures short { IfOk result (λ many. HasShortText (cut_picture many.cut)) }
 {
     tell_all_inputs(image, public, secrets, regions);
     measure_runs(alloc, image, public, secrets, regions, book, turns)

@@ -72,8 +72,13 @@ sides_same : (one other : Side) → one.points ≡ other.points → one.relays �
 unfolding side_of
 sides_same one other points relays = ap₂ side_of points relays
 
+-- what is measured of a run is the measure of events
+abbrev pub IsMeasuredOf : ℕ → List Event → Measured → Type 0
+IsMeasuredOf secret_len events measured =
+    IsMeasureOf secret_len events measured.graph measured.value measured.flow measured.side (cut_picture measured.cut)
+
 value_most : (secret_len : ℕ) (events : List Event) (one other : Measured) → one.graph ≡ other.graph →
-    IsMeasureOf secret_len events one → IsMeasureOf secret_len events other → one.value ≤ other.value
+    IsMeasuredOf secret_len events one → IsMeasuredOf secret_len events other → one.value ≤ other.value
 value_most secret_len events one other same is also =
     let greatest : HasNoGreater one.graph other.value =
     subst (λ (g : Graph). HasNoGreater g other.value) (sym same) also.greatest in
@@ -83,7 +88,7 @@ value_most secret_len events one other same is also =
     omega (arith, most, value)
 
 pub one_measure_of : (secret_len : ℕ) (events : List Event) (one other : Measured) →
-    IsMeasureOf secret_len events one → IsMeasureOf secret_len events other → AreSameGraphs one other
+    IsMeasuredOf secret_len events one → IsMeasuredOf secret_len events other → AreSameGraphs one other
 one_measure_of secret_len events one other is also =
     let graph : one.graph ≡ other.graph = one_graph events one.graph other.graph is.graph also.graph in
     let most = value_most secret_len events one other graph is also in
@@ -129,8 +134,8 @@ one_measure table regions start secret_len limit one other deciding is also =
     also.exits in
     let same = same_exits table regions start limit one.turns other.turns one.output other.output deciding is.exits
     also.exits in
-    let measure : IsMeasureOf secret_len (run_after regions (is.exits.last ∷ is.exits.earlier) start).events other =
-    subst (λ (run : LabelledRun). IsMeasureOf secret_len run.events other) (sym same) also.measure in
+    let measure : IsMeasuredOf secret_len (run_after regions (is.exits.last ∷ is.exits.earlier) start).events other =
+    subst (λ (run : LabelledRun). IsMeasuredOf secret_len run.events other) (sym same) also.measure in
     let parts = one_measure_of secret_len (run_after regions (is.exits.last ∷ is.exits.earlier) start).events one other
     is.measure measure in
     record {

@@ -91,7 +91,7 @@ module _ (table : ℕ) (program : Picture) (public_input : List ℕ) (regions : 
       measured.side.relays) bits (cut_picture measured.cut)) (sym m.measure.capacity) m.measure.cut)
       (cut_valid measured.cut))
 
-  pub short : length secret ≤ 65536 → HasShortText measured
+  pub short : length secret ≤ 65536 → HasShortText (cut_picture measured.cut)
   short within =
       let bits : measured.value ≤ 524288 = let most = few in omega (arith, most, within) in
       record {

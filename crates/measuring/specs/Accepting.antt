@@ -31,8 +31,8 @@ IsAcceptedByFolds program public_input regions secret turns measured =
 abbrev pub HasSmallCut : Measured → Type 0
 HasSmallCut measured = HasFewRuns measured.value (cut_picture measured.cut)
 
--- the text of the measured cut has at most 64 MiB, and so has that of each valid cut that is a fold of it
-pub record HasShortText (measured : Measured) : Type 0 where
-  pub text : length (cut_text (cut_picture measured.cut)) ≤ 67108864
-  pub fold : (folded : CutPicture) → is_cut_picture folded ≡ true → IsFold (cut_picture measured.cut) folded
+-- the text of a cut has at most 64 MiB, and so has that of each valid cut that is a fold of it
+pub record HasShortText (cut : CutPicture) : Type 0 where
+  pub text : length (cut_text cut) ≤ 67108864
+  pub fold : (folded : CutPicture) → is_cut_picture folded ≡ true → IsFold cut folded
       → length (cut_text folded) ≤ 67108864

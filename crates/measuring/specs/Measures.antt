@@ -1,12 +1,16 @@
 -- What is measured of a run.
 use Rattle.std.specs.Prelude.{◌≡◌, ℕ, List, ◌∷◌}
+use Rattle.cut_file.specs.Cuts.{CutPicture}
 use Rattle.cut_file.specs.Pictures.{cut_picture}
 use Rattle.acceptance_law.specs.RunCuts.{IsCutOf}
 use Rattle.acceptance_law.specs.Sides.{named_side}
 use Rattle.enclosure_regions.specs.declared.region_parts.Region.{Region}
 use Rattle.flow_graph.specs.declared.events.Event.{Event}
+use Rattle.flow_graph.specs.declared.graphs.Graph.{Graph}
 use Rattle.flow_graph.specs.EventGraphs.{IsGraphOf}
 use Rattle.location_collapse.specs.Limits.{ExceedsLimit}
+use Rattle.max_flow.specs.declared.answers.Flow.{Flow}
+use Rattle.max_flow.specs.declared.answers.Side.{Side}
 use Rattle.max_flow.specs.Flows.{AreAtMost, HasNoGreater, IsFlowOf, Least, flow_value, side_capacity}
 use Rattle.run_labels.specs.Runs.{LabelledRun, run_after}
 use Rattle.run_labels.specs.declared.faults.MeasureFault.{MeasureFault}
@@ -16,26 +20,27 @@ use Rattle.measuring.specs.declared.measured.Measured.{Measured}
 use Rattle.measuring.specs.RunCauses.{Exits, GoesOn, IsRefused}
 use Rattle.flow_base.specs.declared.outputs.Output.{Output}
 
--- the graph of the events, which exceeds no limit, a maximum flow of it, no part of which exceeds its value, its least
--- minimum side, and the cut of that side
-pub record IsMeasureOf (secret_len : ℕ) (events : List Event) (measured : Measured) : Type 0 where
-  pub graph : IsGraphOf events measured.graph
+-- the graph of events, which exceeds no limit, a maximum flow of it, no part of which exceeds its value, its least minimum
+-- side, and the cut of that side; the events are those of a run, or the united ones of several
+pub record IsMeasureOf (secret_len : ℕ) (events : List Event) (of_events : Graph) (maximum : ℕ) (through : Flow)
+    (least_side : Side) (side_cut : CutPicture) : Type 0 where
+  pub graph : IsGraphOf events of_events
   pub within : ¬ ExceedsLimit events
-  pub flow : IsFlowOf measured.graph measured.flow.points measured.flow.links
-  pub value : flow_value measured.graph measured.flow.points measured.flow.links ≡ measured.value
-  pub greatest : HasNoGreater measured.graph measured.value
-  pub points_most : AreAtMost measured.value measured.flow.points
-  pub links_most : AreAtMost measured.value measured.flow.links
-  pub side : Least measured.graph measured.side.points measured.side.relays
-  pub capacity : side_capacity measured.graph measured.side.points measured.side.relays ≡ measured.value
-  pub cut : IsCutOf secret_len events (named_side measured.graph measured.side.points measured.side.relays)
-      measured.value (cut_picture measured.cut)
+  pub flow : IsFlowOf of_events through.points through.links
+  pub value : flow_value of_events through.points through.links ≡ maximum
+  pub greatest : HasNoGreater of_events maximum
+  pub points_most : AreAtMost maximum through.points
+  pub links_most : AreAtMost maximum through.links
+  pub side : Least of_events least_side.points least_side.relays
+  pub capacity : side_capacity of_events least_side.points least_side.relays ≡ maximum
+  pub cut : IsCutOf secret_len events (named_side of_events least_side.points least_side.relays) maximum side_cut
 
 -- the run exits within the limit, and this is the measure of its events
 pub record Measures (table : ℕ) (regions : List Region) (start : LabelledRun) (secret_len limit : ℕ)
     (measured : Measured) : Type 0 where
   pub exits : Exits table regions start limit measured.turns measured.output
-  pub measure : IsMeasureOf secret_len (run_after regions (exits.last ∷ exits.earlier) start).events measured
+  pub measure : IsMeasureOf secret_len (run_after regions (exits.last ∷ exits.earlier) start).events measured.graph
+      measured.value measured.flow measured.side (cut_picture measured.cut)
 
 -- the run exits within the limit, and its graph exceeds a limit
 pub record IsTooLarge (table : ℕ) (regions : List Region) (start : LabelledRun) (limit : ℕ) : Type 0 where

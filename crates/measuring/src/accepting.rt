@@ -1,4 +1,5 @@
 ghost use Rattle.std.specs.Prelude.{◌≤◌, ◌*◌, length, IfErr, IfOk};
+ghost use Rattle.cut_file.specs.Pictures.{cut_picture};
 ghost use Rattle.elf32_loader.specs.Images.{image_picture};
 ghost use Rattle.region_machine.specs.Starts.{guest};
 ghost use Rattle.run_labels.specs.Runs.{unlabelled};
@@ -45,7 +46,7 @@ pub fn measure(
         IsAcceptedByFolds (image_picture image.now) public.now regions.now.items secret.now turns measured) }
     ensures few { IfOk result (λ measured. measured.value ≤ 8 * length secret.now) }
     ensures runs { IfOk result (λ measured. HasSmallCut measured) }
-    ensures short { IfOk result (λ measured. HasShortText measured) }
+    ensures short { IfOk result (λ measured. HasShortText (cut_picture measured.cut)) }
 {
     tell_inputs(image, public, secret, regions);
     measure_run(alloc, image, public, secret, regions, book, turns)

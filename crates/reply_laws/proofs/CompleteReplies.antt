@@ -7,6 +7,7 @@ use Rattle.lockstep_replay.specs.Tasks.{Task as JudgedTask, Limits as CheckLimit
 use Rattle.lockstep_replay.specs.Verdicts.{Judgement, Accepts, Rejects, First}
 use Rattle.lockstep_replay.proofs.Accepting.{accepted_law}
 use Rattle.lockstep_replay.proofs.Judging.{rejected_law}
+use Rattle.many_runs.specs.Accepting.{HasAccepted}
 use Rattle.command_line.specs.declared.judgings.Judging.{Judging}
 use Rattle.command_line.specs.declared.judgings.Judging.TheVariants.{Replay, Masks}
 use Rattle.command_line.specs.declared.tellings.Telling.{Telling}
@@ -25,9 +26,9 @@ use Rattle.task_answers.specs.Tellings.{AnswersTelling, IsCertificateText, IsCut
 use Rattle.task_answers.specs.TaskAnswers.{AnswersTask}
 use Rattle.task_answers.specs.Texts.{accepted_count}
 use Rattle.task_answers.specs.Trials.{TellsTrial, run_of_number}
-use Rattle.commands.specs.MeasuredHeadline.{HasAccepted}
-use Rattle.commands.specs.Replies.{AnswersCommand, AnswersWords, IsUsage, Replies, Reply, AnswersFiles}
-use Rattle.commands.proofs.Readings.{words_reading, reads_it, status_of}
+use Rattle.commands.specs.Replies.{Replies, Reply}
+use Rattle.commands.proofs.Readings.{AnswersCommand, AnswersFiles, IsUsage, ReadsWords, reads_it, reads_words, status_of}
+use Rattle.commands.proofs.Readings.{words_reading}
 use Rattle.reply_laws.specs.ReplyLaws.{AreLoaded, Completes, CompletesBy, CompletesCheck, CompletesTelling}
 use Rattle.reply_laws.proofs.OneGuest.{RegionLaws}
 use Rattle.reply_laws.proofs.OneBound.{bound_completes}
@@ -155,7 +156,7 @@ reads_loaded told command files answer are (inr (others, loads, h)) =
 
 words_complete : RegionLaws → (source : Option Told) (words files : List (List ℕ)) (command : Command) (task : Task)
     (answer : Answer) → IsCommand words command → AreLoaded source command files → IsTaskOf command files task →
-    AnswersWords source words answer → Completes task (status_of answer)
+    ReadsWords source words answer → Completes task (status_of answer)
 words_complete laws None words files command task answer named are is answers = absurd are
 words_complete laws (Some told) words files command task answer named are is answers =
     let of_command = reads_it Command (IsCommand words) (IsUsage words) (AnswersCommand (Some told))
@@ -168,6 +169,7 @@ words_complete laws (Some told) words files command task answer named are is ans
 pub complete_of : RegionLaws → (source : Option Told) (words files : List (List ℕ)) (command : Command) (task : Task)
     (reply : Reply) → IsCommand words command → AreLoaded source command files → IsTaskOf command files task →
     Replies source words reply → Completes task reply.status
-complete_of laws source words files command task reply named are is (answer, answers, e) =
-    subst (λ s. Completes task s) (ap (λ r. r.status) (sym e))
-    (words_complete laws source words files command task answer named are is answers)
+complete_of laws source words files command task reply named are is replies =
+    subst (λ s. Completes task s) (ap (λ r. r.status) (sym replies.tells))
+    (words_complete laws source words files command task replies.answer named are is
+    (reads_words source words replies.answer replies.answers))

@@ -45,8 +45,9 @@ use Rattle.task_answers.specs.TaskAnswers.{AnswersTask}
 use Rattle.task_answers.specs.Trials.{TellsTrial, crossing_count, guest_of_number, run_of_number, trial_line}
 use Rattle.task_answers.specs.Trials.{trial_turns}
 use Rattle.task_answers.specs.Verifications.{AnswersVerdict, IsExactVerdict, verdict_reply}
-use Rattle.commands.specs.Replies.{AnswersCommand, AnswersWords, IsUsage, Replies, Reply, reply_of, AnswersFiles}
-use Rattle.commands.proofs.Readings.{AreOne, IsReading, reads_one, status_of, words_reading}
+use Rattle.commands.specs.Replies.{Replies, Reply, reply_of}
+use Rattle.commands.proofs.Readings.{AnswersCommand, AnswersFiles, AreOne, IsReading, IsUsage, ReadsWords, reads_one, reads_words}
+use Rattle.commands.proofs.Readings.{status_of, words_reading}
 use Rattle.reply_laws.specs.ReplyLaws.{AreLoaded, CompletesRun, CompletesVerdict, HasFewPaths, HaveFewPaths, IsNoGraph}
 use Rattle.reply_laws.proofs.CutTexts.{one_cut_text}
 use Rattle.reply_laws.proofs.OneBound.{bound_same}
@@ -396,7 +397,7 @@ words_alike : RegionLaws → (Alike : Answer → Answer → Type 0) → ((answer
     (told : Told) (words : List (List ℕ)) (first second : Answer) →
     ((command : Command) (files : List (List ℕ)) (task : Task) → IsCommand words command →
     AreLoaded (Some told) command files → IsTaskOf command files task → AnswersTask task first → AnswersTask task second → Alike first second) →
-    AnswersWords (Some told) words first → AnswersWords (Some told) words second → Alike first second
+    ReadsWords (Some told) words first → ReadsWords (Some told) words second → Alike first second
 words_alike laws Alike self told words first second step =
     reads_one Command (IsCommand words) (IsUsage words) (AnswersCommand (Some told)) Alike self (words_reading words)
     first second
@@ -414,14 +415,15 @@ few_task told words command files task few named loaded is = λ all e.
     few command files all named loaded (subst (λ t. IsTaskOf command files t) e is)
 
 words_one : RegionLaws → (told : Told) (words : List (List ℕ)) (first second : Answer) → HaveFewPaths (Some told) words →
-    AnswersWords (Some told) words first → AnswersWords (Some told) words second → AreOne first second
+    ReadsWords (Some told) words first → ReadsWords (Some told) words second → AreOne first second
 words_one laws told words first second few =
     words_alike laws AreOne (λ answer. refl) told words first second
     (λ command files task named loaded is. task_one task first second (task_decides words files command task named is)
     (few_task told words command files task few named loaded is))
 
 words_same : RegionLaws → (told : Told) (words : List (List ℕ)) (first second : Answer) → IsNoGraph words →
-    HaveFewPaths (Some told) words → AnswersWords (Some told) words first → AnswersWords (Some told) words second → first ≡ second
+    HaveFewPaths (Some told) words → ReadsWords (Some told) words first → ReadsWords (Some told) words second →
+    first ≡ second
 words_same laws told words first second none few =
     words_alike laws (λ a b. a ≡ b) (λ answer. refl) told words first second
     (λ command files task named loaded is. task_same task first second
@@ -433,7 +435,11 @@ pub one_reply : RegionLaws → (source : Option Told) (words : List (List ℕ)) 
     is_some source ≡ true → HaveFewPaths source words → Replies source words first → Replies source words second →
     (first.status ≡ second.status) × (IsNoGraph words → first ≡ second)
 one_reply laws None words first second tells few one other = absurd (false≢true tells)
-one_reply laws (Some told) words first second tells few (a, answers, e) (b, also, f) = (
-  ap (λ r. r.status) e ∙ (words_one laws told words a b few answers also ∙ ap (λ r. r.status) (sym f)),
-  (λ none. e ∙ (ap reply_of (words_same laws told words a b none few answers also) ∙ sym f)),
-)
+one_reply laws (Some told) words first second tells few one other =
+    let answers = reads_words (Some told) words one.answer one.answers in
+    let also = reads_words (Some told) words other.answer other.answers in (
+      ap (λ r. r.status) one.tells
+          ∙ (words_one laws told words one.answer other.answer few answers also ∙ ap (λ r. r.status) (sym other.tells)),
+      (λ none. one.tells
+          ∙ (ap reply_of (words_same laws told words one.answer other.answer none few answers also) ∙ sym other.tells)),
+    )

@@ -24,7 +24,7 @@ use Rattle.command_tasks.specs.declared.refusals.Refusal.TheVariants.{Certificat
 use Rattle.command_tasks.specs.Tasks.{AllSecretsTask, CheckTask, ManyRunsTask, RunTask, Task, BoundAll}
 use Rattle.command_tasks.specs.Tasks.{IsAllSecretsTask, JudgeSecrets, TellRun, MeasureAll, WriteProgram, ListProgram}
 use Rattle.command_tasks.specs.Tasks.{VerifyCertificate, MigrateCut, IsCutFilesRefusal, IsCheckTask, IsFormRefusal}
-use Rattle.command_tasks.specs.Tasks.{IsManyRunsRefusal, IsManyRunsTask, IsRunFilesRefusal, IsRunTask, IsTaskOf}
+use Rattle.command_tasks.specs.Tasks.{IsGuestFilesRefusal, IsManyRunsTask, IsRunTask, IsTaskOf}
 use Rattle.command_tasks.specs.Guests.{AreGuestFiles, Guest, GuestFiles, IsGuest, IsGuestRefusal}
 use Rattle.command_tasks.specs.Refusals.{IsCutRefusal, IsProgramRefusal}
 use Rattle.command_tasks.specs.CertificateFiles.{IsCertificate}
@@ -101,11 +101,10 @@ one_cut_fault laws names files first second one other =
     one_first laws other.guest_files other.cut_file first second
     (subst (λ c. FirstRefusal other.guest_files c first) same.cuts here) other.first
 
-one_run_fault : RegionLaws → (run : Run) (files : List (List ℕ)) (first second : Refusal) →
-    IsRunFilesRefusal run files first → IsRunFilesRefusal run files second → first ≡ second
-one_run_fault laws run files first second one other =
-    let same = same_run_files run.guest files one.guest_files other.guest_files (one.secret ∷ []) (other.secret ∷ [])
-    one.are other.are in
+one_run_fault : RegionLaws → (names : GuestNames) (files : List (List ℕ)) (first second : Refusal) →
+    IsGuestFilesRefusal names files first → IsGuestFilesRefusal names files second → first ≡ second
+one_run_fault laws names files first second one other =
+    let same = same_run_files names files one.guest_files other.guest_files one.secrets other.secrets one.are other.are in
     (guest_reading laws other.guest_files).refused first second
     (subst (λ f. IsGuestRefusal f first) same.guests one.first) other.first
 
@@ -158,12 +157,13 @@ same_run laws run files a b one other =
     ∙ (ap (λ v. made_run b.guest b.secret v a.table) (one.turns ∙ sym other.turns)
     ∙ ap (λ v. made_run b.guest b.secret b.turns v) (one.table ∙ sym other.table)))
 
-no_run_fault : RegionLaws → (run : Run) (files : List (List ℕ)) (task : RunTask) (refusal : Refusal) →
-    IsRunTask run files task → IsRunFilesRefusal run files refusal → ⊥
-no_run_fault laws run files task refusal is refused =
-    let same = same_run_files run.guest files refused.guest_files is.guest_files (refused.secret ∷ [])
-    (task.secret ∷ []) refused.are is.are in
-    (guest_reading laws is.guest_files).none task.guest refusal is.guest
+-- where the files are a guest, nothing is wrong with them
+no_run_fault : RegionLaws → (names : GuestNames) (files : List (List ℕ)) (guest_files : GuestFiles)
+    (secrets : List (List ℕ)) (guest : Guest) (refusal : Refusal) → AreGuestFiles names files guest_files [] secrets →
+    IsGuest guest_files guest → IsGuestFilesRefusal names files refusal → ⊥
+no_run_fault laws names files guest_files secrets guest refusal are is_guest refused =
+    let same = same_run_files names files refused.guest_files guest_files refused.secrets secrets refused.are are in
+    (guest_reading laws guest_files).none guest refusal is_guest
     (subst (λ f. IsGuestRefusal f refusal) same.guests refused.first)
 
 -- ---- several runs
@@ -181,22 +181,6 @@ same_runs laws runs files a b one other =
     ∙ (ap (λ v. made_runs b.guest v a.turns a.table) same.secrets
     ∙ (ap (λ v. made_runs b.guest b.secrets v a.table) (one.turns ∙ sym other.turns)
     ∙ ap (λ v. made_runs b.guest b.secrets b.turns v) (one.table ∙ sym other.table)))
-
-no_runs_fault : RegionLaws → (runs : ManyRuns) (files : List (List ℕ)) (task : ManyRunsTask) (refusal : Refusal) →
-    IsManyRunsTask runs files task → IsManyRunsRefusal runs files refusal → ⊥
-no_runs_fault laws runs files task refusal is refused =
-    let same = same_run_files runs.guest files refused.guest_files is.guest_files refused.secrets task.secrets refused.are
-    is.are in
-    (guest_reading laws is.guest_files).none task.guest refusal is.guest
-    (subst (λ f. IsGuestRefusal f refusal) same.guests refused.first)
-
-one_runs_fault : RegionLaws → (runs : ManyRuns) (files : List (List ℕ)) (first second : Refusal) →
-    IsManyRunsRefusal runs files first → IsManyRunsRefusal runs files second → first ≡ second
-one_runs_fault laws runs files first second one other =
-    let same = same_run_files runs.guest files one.guest_files other.guest_files one.secrets other.secrets one.are
-    other.are in
-    (guest_reading laws other.guest_files).refused first second
-    (subst (λ f. IsGuestRefusal f first) same.guests one.first) other.first
 
 -- ---- a certificate
 
@@ -250,9 +234,9 @@ no_task_fault laws (Checks check) files task refusal (x, is, e) refused =
 no_task_fault laws (Bounds all) files task refusal (x, is, e) refused =
     no_cut_fault laws all.guest files is.guest_files is.cut_file [] x.guest x.cut refusal is.are is.guest is.cut refused
 no_task_fault laws (Tells telling run) files task refusal (x, is, e) refused =
-    no_run_fault laws run files x refusal is refused
+    no_run_fault laws run.guest files is.guest_files (x.secret ∷ []) x.guest refusal is.are is.guest refused
 no_task_fault laws (MeasuresAll version runs) files task refusal (x, is, e) refused =
-    no_runs_fault laws runs files x refusal is refused
+    no_run_fault laws runs.guest files is.guest_files x.secrets x.guest refusal is.are is.guest refused
 no_task_fault laws (Assembles source) files task refusal (file, x, are, is, e) (also, alike, (fault, first, f)) =
     ok_err x fault (assembled also) (ap assembled (one_file files also file alike are) ∙ is) first
 no_task_fault laws (Lists program) files task refusal (file, x, are, is, e) (also, alike, first) =
@@ -275,9 +259,10 @@ one_task_form_fault laws (Checks check) files first second one other =
     one_cut_fault laws check.guest files first second one other
 one_task_form_fault laws (Bounds all) files first second one other =
     one_cut_fault laws all.guest files first second one other
-one_task_form_fault laws (Tells telling run) files first second one other = one_run_fault laws run files first second one other
+one_task_form_fault laws (Tells telling run) files first second one other =
+    one_run_fault laws run.guest files first second one other
 one_task_form_fault laws (MeasuresAll version runs) files first second one other =
-    one_runs_fault laws runs files first second one other
+    one_run_fault laws runs.guest files first second one other
 one_task_form_fault laws (Assembles source) files first second (file, are, (fault, is, e)) (also, alike, (other, was, f)) =
     let here : assembled also ≡ Err fault = ap assembled (one_file files also file alike are) ∙ is in
     e ∙ (ap (λ x. Source x) (err_err fault other (assembled also) here was) ∙ sym f)

@@ -13,6 +13,7 @@ use Rattle.run_labels.specs.declared.faults.MeasureFault.{MeasureFault}
 use Rattle.run_labels.specs.declared.faults.MeasureFault.TheVariants.{Memory as NoRoomForRun}
 use Rattle.many_runs.specs.declared.faults.ManyFault.{ManyFault}
 use Rattle.many_runs.specs.declared.faults.ManyFault.TheVariants.{Memory as NoRoomForRuns}
+use Rattle.many_runs.specs.Accepting.{HasAccepted}
 use Rattle.many_runs.specs.Causes.{HasManyCause}
 use Rattle.region_learn.specs.declared.faults.LearnFault.{LearnFault}
 use Rattle.region_learn.specs.LearnAnswers.{RefusesToLearn}
@@ -34,7 +35,6 @@ use Rattle.task_answers.specs.Declarations.{learnt_run}
 use Rattle.task_answers.specs.ManyRuns.{setup_in}
 use Rattle.task_answers.specs.Runs.{start_of}
 use Rattle.task_answers.specs.Trials.{run_of_number}
-use Rattle.commands.specs.MeasuredHeadline.{HasAccepted}
 use Rattle.commands.specs.Replies.{Reply, Replies}
 
 -- ---- one reply

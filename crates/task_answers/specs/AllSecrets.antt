@@ -1,6 +1,5 @@
 -- All secrets of a guest, whose outputs are bounded by a cut.
 use Rattle.std.specs.Prelude.{◌≡◌, ◌⊎◌, ◌==◌, ◌++◌, ℕ, Bool, List, length, Ok, if◌then◌else◌}
-use Rattle.lockstep_replay.specs.Tasks.{Task as BoundTask, task_of}
 use Rattle.transfer_rules.specs.Table1.{mask_by_table_1}
 use Rattle.transfer_rules.specs.Table2.{mask_by_table_2}
 use Rattle.transfer_rules.specs.Table3.{mask_by_table_3}
@@ -15,6 +14,7 @@ use Rattle.every_secret.specs.Rules.{Rules, rules_of}
 use Rattle.command_tasks.specs.declared.statuses.Status.TheVariants.{Done, Rejected}
 use Rattle.command_tasks.specs.Tasks.{AllSecretsTask}
 use Rattle.task_answers.specs.Answers.{Answer}
+use Rattle.task_answers.specs.Checks.{judged_by}
 use Rattle.task_answers.specs.BoundTexts.{bounded_line, listing, public_text, too_many_line, unclear_line}
 
 -- the mask rules of tables 1 and 2, and for every other number those of table 3, where so much is known of the public
@@ -28,18 +28,14 @@ rules_by table public =
 abbrev pub public_of : AllSecretsTask → PublicInput
 public_of all = if all.any_public then Any else Given
 
--- what the secrets are those of
-abbrev pub task_in : AllSecretsTask → BoundTask
-task_in all = task_of all.guest.program all.guest.public_input all.guest.regions all.cut
-
 -- the bound for all secrets, or for all pairs of a public input and a secret
 abbrev pub bound_of : AllSecretsTask → BoundAnswer
-bound_of all = Bounds (rules_by all.table (public_of all)) (seen_task (public_of all) (task_in all)) all.limits
+bound_of all = Bounds (rules_by all.table (public_of all)) (seen_task (public_of all) (judged_by all.guest all.cut)) all.limits
 
 -- the tree of all paths
 abbrev pub tree_in : AllSecretsTask → Tree
 tree_in all =
-    tree_of (MaskedReplay (rules_by all.table (public_of all)) (seen_task (public_of all) (task_in all)) all.limits)
+    tree_of (MaskedReplay (rules_by all.table (public_of all)) (seen_task (public_of all) (judged_by all.guest all.cut)) all.limits)
 
 -- the text of what is found, where so many bits suffice for the outputs
 abbrev pub bounded_text : AllSecretsTask → Summary → ℕ → List ℕ
@@ -51,7 +47,7 @@ bounded_text all found bits =
 -- what is found tells of all secrets, or pairs, and its text has the least number of bits for its outputs
 abbrev pub AnswersBound : AllSecretsTask → BoundAnswer → Answer → Type 0
 AnswersBound all (IsBounded found) answer =
-    TellsOf (public_of all) (task_in all) all.limits (IsBounded found)
+    TellsOf (public_of all) (judged_by all.guest all.cut) all.limits (IsBounded found)
     × ((bits : ℕ) × IsLeastPower (output_count found.patterns) bits
     × (answer ≡ Ok (record { status = Done; text = bounded_text all (summary_of found) bits })))
 AnswersBound all (IsUnclear bits why) answer =

@@ -29,10 +29,12 @@ check_reply judgements budget = record {
   text = check_text judgements budget;
 }
 
+-- a judgement of each secret by a second machine
+abbrev pub AnswersReplay : JudgedTask → Limits → List (List ℕ) → Answer → Type 0
+AnswersReplay task limits secrets answer = answer ≡ Ok (check_reply (judgements_of task limits secrets) limits.budget)
+
 abbrev pub AnswersBy : Judging → CheckTask → Answer → Type 0
-AnswersBy Replay task answer =
-    answer
-    ≡ Ok (check_reply (judgements_of (judged_by task.guest task.cut) task.limits task.secrets) task.limits.budget)
+AnswersBy Replay task answer = AnswersReplay (judged_by task.guest task.cut) task.limits task.secrets answer
 AnswersBy (Masks table) task answer =
     AnswersTaint table (judged_by task.guest task.cut) task.limits task.secrets answer
 

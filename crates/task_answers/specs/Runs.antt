@@ -1,5 +1,6 @@
 -- One run of a guest that is to be told of, and what is measured of it.
 use Rattle.std.specs.Prelude.{◌≢◌, ◌≤◌, ◌*◌, length}
+use Rattle.cut_file.specs.Pictures.{cut_picture}
 use Rattle.measuring.specs.declared.measured.Measured.{Measured}
 use Rattle.measuring.specs.Accepting.{HasShortText, IsAcceptedByFolds, IsAcceptedByItsCut}
 use Rattle.measuring.specs.Measures.{HasCause, Measures}
@@ -26,7 +27,7 @@ pub record IsMeasured (run : RunTask) (measured : Measured) : Type 0 where
   pub folds :
       IsAcceptedByFolds run.guest.program run.guest.public_input run.guest.regions run.secret run.turns measured
   pub few : measured.value ≤ 8 * length run.secret
-  pub short : HasShortText measured
+  pub short : HasShortText (cut_picture measured.cut)
 
 -- why it is refused
 abbrev pub IsRunRefusal : RunTask → Refusal → Type 0

@@ -1,7 +1,7 @@
 //! What a command line and its files ask for is made.
 
 ghost use Rattle.std.specs.Prelude.{◌≡◌, ◌≢◌, ◌∷◌, [], Err, map};
-ghost use Rattle.command_tasks.specs.ReadTasks.{IsBounded, task_in};
+ghost use Rattle.command_tasks.specs.ReadTasks.{IsLimitedTask, task_in};
 ghost use Rattle.command_tasks.specs.declared.refusals.Refusal.TheVariants.{Memory};
 ghost use Rattle.task_answers.specs.TaskAnswers.{AnswersTask};
 
@@ -25,7 +25,7 @@ use transfer_rules::RuleBook;
 /// cause that the run or the runs have, or [`Refusal::Memory`] out of memory.
 pub fn answer_task(alloc: Global, task: &Task, books: &[RuleBook]) -> Result<Reply, Refusal>
     requires books { map (λ book. book.table) books.now ≡ 1 ∷ 2 ∷ 3 ∷ [] }
-    requires bounded { IsBounded task.now }
+    requires bounded { IsLimitedTask task.now }
     ensures { result ≢ Err Memory → AnswersTask (task_in task.now) result }
 {
     match task {

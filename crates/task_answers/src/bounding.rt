@@ -5,7 +5,8 @@ ghost use Rattle.every_secret.specs.AnyPublic.{TellsOf, seen_task};
 ghost use Rattle.every_secret.specs.Bounds.{Found, HasMorePaths, IsBounded, IsUnclear, IsVerdict, summary_in, summary_of};
 ghost use Rattle.command_tasks.specs.ReadTasks.{IsBoundedAll, all_secrets_in};
 ghost use Rattle.task_answers.specs.AllSecrets.{AnswersAllSecrets, AnswersBound, AnswersTooMany, bound_of, rules_by};
-ghost use Rattle.task_answers.specs.AllSecrets.{public_of, task_in as bound_task, tree_in};
+ghost use Rattle.task_answers.specs.AllSecrets.{public_of, tree_in};
+ghost use Rattle.task_answers.specs.Checks.{judged_by};
 
 use crate::books::book_of;
 use crate::bound_lines::{bounded_line, listing, public_text, too_many_line, unclear_line};
@@ -39,9 +40,9 @@ fn verdict_on(
     requires books { map (λ book. book.table) books.now ≡ 1 ∷ 2 ∷ 3 ∷ [] }
     requires bounded { IsBoundedAll all.now }
     ensures answer { IfOk result (λ verdict. IsVerdict (rules_by all.now.table (public_of (all_secrets_in all.now)))
-        (seen_task (public_of (all_secrets_in all.now)) (bound_task (all_secrets_in all.now)))
+        (seen_task (public_of (all_secrets_in all.now)) (judged_by (all_secrets_in all.now).guest (all_secrets_in all.now).cut))
         (all_secrets_in all.now).limits all.now.paths verdict) }
-    ensures all { TellsOf (public_of (all_secrets_in all.now)) (bound_task (all_secrets_in all.now))
+    ensures all { TellsOf (public_of (all_secrets_in all.now)) (judged_by (all_secrets_in all.now).guest (all_secrets_in all.now).cut)
         (all_secrets_in all.now).limits (bound_of (all_secrets_in all.now)) }
 {
     tables_have_rules();
@@ -63,7 +64,7 @@ fn verdict_on(
 /// The reply to what all paths show.
 fn bounded_reply(alloc: Global, all: &AllSecretsTask, found: &Bounded) -> Result<Reply, NoMemory>
     ensures { IfOk result (λ reply. (all_found : Found) → summary_in found.now ≡ summary_of all_found →
-        TellsOf (public_of (all_secrets_in all.now)) (bound_task (all_secrets_in all.now))
+        TellsOf (public_of (all_secrets_in all.now)) (judged_by (all_secrets_in all.now).guest (all_secrets_in all.now).cut)
         (all_secrets_in all.now).limits (IsBounded all_found) →
         AnswersBound (all_secrets_in all.now) (IsBounded all_found) (Fine reply)) }
 {

@@ -1,14 +1,15 @@
 -- What is measured of a recording of several runs.
 use Rattle.std.specs.Prelude.{◌≡◌, ℕ, ◌<◌, true, List}
+use Rattle.cut_file.specs.Pictures.{cut_picture}
 use Rattle.flow_graph.specs.declared.events.Event.{Event}
 use Rattle.measuring.specs.declared.recordings.Recording.{Recording}
+use Rattle.measuring.specs.Measures.{IsMeasureOf}
 use Rattle.measuring.specs.Recordings.{Records}
 use Rattle.acceptance_law.specs.VisitLaws.{FitCuts}
 use Rattle.many_runs.specs.declared.faults.ManyFault.{ManyFault}
 use Rattle.many_runs.specs.declared.faults.ManyFault.TheVariants.{Length, Run, UnitedLimit, BudgetLimit, Memory}
 use Rattle.many_runs.specs.declared.many.Many.{Many}
 use Rattle.many_runs.specs.Causes.{HasMaximum}
-use Rattle.many_runs.specs.Measures.{IsMeasureOfAll}
 use Rattle.location_collapse.specs.Limits.{ExceedsLimit}
 
 -- the recording stands for some events that fit into a cut
@@ -20,7 +21,8 @@ pub record HasFittingEvents (recording : Recording) : Type 0 where
 -- the measure of whatever events the recording stands for
 abbrev pub WeighsAll : Recording → ℕ → Many → Type 0
 WeighsAll union secret_len many =
-    (events : List Event) → Records union events → IsMeasureOfAll secret_len events many
+    (events : List Event) → Records union events
+    → IsMeasureOf secret_len events many.graph many.value many.flow many.side (cut_picture many.cut)
 
 -- the maximum flow of the graph of these events, which exceeds no limit, is greater than the limit of a budget
 pub record IsOverBudget (events : List Event) (value : ℕ) : Type 0 where

@@ -2,6 +2,7 @@
 use Rattle.std.specs.Prelude.{◌≡◌, ◌≤◌, ℕ, List, Bool, true, length}
 use Rattle.acceptance_law.specs.SecretBits.{ReadsSecret}
 use Rattle.acceptance_law.specs.VisitLaws.{FitCuts}
+use Rattle.cut_file.specs.Pictures.{cut_picture}
 use Rattle.flow_graph.specs.declared.events.Event.{Event}
 use Rattle.run_labels.specs.declared.faults.MeasureFault.{MeasureFault}
 use Rattle.run_labels.specs.declared.faults.MeasureFault.TheVariants.{TurnLimit, Guest, Region as RegionFault}
@@ -25,7 +26,8 @@ pub record HasRunEvents (recording : Recording) : Type 0 where
 pub record Weighs (exit : Exit) (secret_len : ℕ) (measured : Measured) : Type 0 where
   pub turns : measured.turns ≡ exit.turns
   pub output : measured.output ≡ exit.output
-  pub measure : (events : List Event) → Records exit.recording events → IsMeasureOf secret_len events measured
+  pub measure : (events : List Event) → Records exit.recording events
+      → IsMeasureOf secret_len events measured.graph measured.value measured.flow measured.side (cut_picture measured.cut)
 
 -- why an exit is not measured: its events exceed a limit, or memory is short
 abbrev pub IsUnweighed : Bool → MeasureFault → Type 0

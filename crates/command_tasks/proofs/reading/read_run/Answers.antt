@@ -1,8 +1,8 @@
-use Rattle.std.proofs.Common.{◌≡◌, Err, arith}
+use Rattle.std.proofs.Common.{◌≡◌, [], ◌∷◌, Err, arith}
 use Rattle.std.proofs.lemmas.Grind.{common_steps}
-use Rattle.command_line.specs.Words.{run_of}
+use Rattle.command_line.specs.Words.{guest_of}
 use Rattle.command_tasks.specs.Private.LoadedFiles.{files_in}
-use Rattle.command_tasks.specs.Tasks.{IsRunFilesRefusal}
+use Rattle.command_tasks.specs.Tasks.{IsGuestFilesRefusal}
 use Rattle.command_tasks.proofs.Refusing.{handed_on}
 use Rattle.command_tasks.proofs.reading.read_run.Goals as goal
 
@@ -11,10 +11,10 @@ returns-in_err-guest-clause-err c =
     let refusal = c.in_err-guest.field-0.0 in
     let same : c.from_residual.result ≡ Err refusal = grind (arith, common_steps) in
     let files = c.files_of_run.result in
-    handed_on (IsRunFilesRefusal (run_of c.args.run.now) c.args.files.now) refusal c.from_residual.result same
+    handed_on (IsGuestFilesRefusal (guest_of c.args.run.now.guest) c.args.files.now) refusal c.from_residual.result same
     (λ known. record {
       guest_files = files_in files.0;
-      secret = files.1.now;
+      secrets = files.1.now ∷ [];
       are = c.files_of_run.ensures.are;
       first = c.in_err-guest.ensures.err known;
     })

@@ -9,7 +9,7 @@ use Rattle.commands.proofs.answering.answer.Goals as goal
 pub returns-in_default-clause-answers : goal.returns-in_default-clause-answers
 returns-in_default-clause-answers g c = λ known.
     let none : c.command_line.result ≡ Ok None = grind (arith, common_steps) in
-    inl (_, (c.command_line.ensures.none none, refl), refl)
+    inl (_, inl (c.command_line.ensures.none none, refl), refl)
 
 pub returns-in_default-clause-leaves : goal.returns-in_default-clause-leaves
 returns-in_default-clause-leaves g c = λ known.
@@ -21,14 +21,14 @@ returns-in_err-loaded-clause-answers g c = λ known.
     let refusal = c.in_err-loaded.field-0.0 in
     let same : c.from_residual-in_err-loaded.result ≡ Err refusal = grind (arith, common_steps) in
     let apart = known_refusal refusal c.from_residual-in_err-loaded.result same known in
-    inr (
-      command_of c.in-Some.command,
-      rw c.in-Some.is at c.in_ok-command.ensures.is,
-      inl (
-        refusal,
-        rw (c.as_slice.ensures, c.in_ok-wants.ensures) at c.in_err-loaded.ensures.loads (err_apart refusal (Err refusal) refl apart),
-        same,
+    inl (
+      refusal,
+      inr (
+        command_of c.in-Some.command,
+        rw c.in-Some.is at c.in_ok-command.ensures.is,
+        inl (rw (c.as_slice.ensures, c.in_ok-wants.ensures) at c.in_err-loaded.ensures.loads (err_apart refusal (Err refusal) refl apart)),
       ),
+      same,
     )
 
 pub returns-in_err-loaded-clause-leaves : goal.returns-in_err-loaded-clause-leaves
@@ -47,31 +47,31 @@ returns-in_err-task-clause-answers g c = λ known.
     let refusal = c.in_err-task.field-0.0 in
     let same : c.from_residual-in_err-task.result ≡ Err refusal = grind (arith, common_steps) in
     let apart = known_refusal refusal c.from_residual-in_err-task.result same known in
-    inr (
-      command_of c.in-Some.command,
-      rw c.in-Some.is at c.in_ok-command.ensures.is,
+    inl (
+      refusal,
       inr (
-        c.in_ok-loaded.loaded,
-        rw (c.as_slice.ensures, c.in_ok-wants.ensures) at c.in_ok-loaded.ensures.loads (λ e. cc),
-        inl (refusal, rw c.as_slice-2.ensures at c.in_err-task.ensures.err apart, same),
+        command_of c.in-Some.command,
+        rw c.in-Some.is at c.in_ok-command.ensures.is,
+        inr (
+          c.in_ok-loaded.loaded,
+          rw (c.as_slice.ensures, c.in_ok-wants.ensures) at c.in_ok-loaded.ensures.loads (λ e. cc),
+          rw c.as_slice-2.ensures at c.in_err-task.ensures.err apart,
+        ),
       ),
+      same,
     )
 
 pub returns-clause-answers : goal.returns-clause-answers
 returns-clause-answers g c = λ known.
-    inr (
-      command_of c.in-Some.command,
-      rw c.in-Some.is at c.in_ok-command.ensures.is,
-      inr (
-        c.in_ok-loaded.loaded,
-        rw (c.as_slice.ensures, c.in_ok-wants.ensures) at c.in_ok-loaded.ensures.loads (λ e. cc),
-        inr (
-          task_in c.in_ok-task.task,
-          rw c.as_slice-2.ensures at c.in_ok-task.ensures.ok,
-          c.answer_task.ensures known,
-        ),
-      ),
-    )
+    inr (record {
+      command = command_of c.in-Some.command;
+      named = rw c.in-Some.is at c.in_ok-command.ensures.is;
+      files = c.in_ok-loaded.loaded;
+      loads = rw (c.as_slice.ensures, c.in_ok-wants.ensures) at c.in_ok-loaded.ensures.loads (λ e. cc);
+      task = task_in c.in_ok-task.task;
+      spelled = rw c.as_slice-2.ensures at c.in_ok-task.ensures.ok;
+      answers = c.answer_task.ensures known;
+    })
 
 pub returns-clause-cause : goal.returns-clause-cause
 returns-clause-cause g c = λ name e.
