@@ -91,8 +91,8 @@ fn put_registers(shadow: &mut Shadow, masks: &[u32; 32])
 fn are_kept(shadow: &Shadow, masks: &[u32; 32]) -> bool
     ensures { result ≡ true → AreMasksOf (kept_label shadow.now) masks.now }
 {
-    for register in 0..32 {
-        if shadow.kept_reg(register).mask != masks[register as usize] {
+    for number in 0..32 {
+        if shadow.kept_reg(number).mask != masks[number as usize] {
             return false;
         }
     }
