@@ -4,3 +4,4 @@ pub mod LaidBytes
 pub mod LastFirst
 pub mod Laws
 pub mod Masks
+pub mod Settled

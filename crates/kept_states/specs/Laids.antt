@@ -24,6 +24,10 @@ LieBelow count (laid ∷ others) = (laid.number < count) × LieBelow count other
 abbrev pub HasBytes : (ℕ → ℕ) → ℕ → List ℕ → Type 0
 HasBytes source number bytes = (offset : ℕ) → offset < 256 → slice_index bytes offset ≡ source (number * 256 + offset)
 
+-- the bytes of the pages from one to before another are 0
+abbrev pub AreZeros : (ℕ → ℕ) → ℕ → ℕ → Type 0
+AreZeros source from end = (index : ℕ) → from * 4096 ≤ index → index < end * 4096 → source index ≡ 0
+
 -- the first so many pieces of a source of bytes are laid
 pub record LaidBelow (pieces : List ℕ) (laids : List Laid) (count : ℕ) (source : ℕ → ℕ) : Type 0 where
   pub same : (index : ℕ) → index < count * 256 → laid_byte pieces laids index ≡ source index

@@ -1,4 +1,7 @@
-ghost use Rattle.std.specs.Prelude.{◌≡◌, ℕ, slice_index, true};
+ghost use Rattle.std.specs.Prelude.{◌≡◌, ◌≤◌, ℕ, length, slice_index, true};
+
+/// The bytes of a piece.
+pub(crate) const PIECE: usize = 256;
 
 /// Whether two lists of bytes are the same.
 #[tactic(auto, using(crate::proofs::SameBytes::bytes_same))]
@@ -16,16 +19,37 @@ pub(crate) fn are_same_words(first: &[u32; 32], second: &[u32; 32]) -> bool
     first == second
 }
 
-/// Whether all bytes are 0.
+/// Whether two pieces have the same bytes. Each byte is looked at, sixteen at once.
+pub(crate) fn are_same_pieces(first: &[u8], second: &[u8]) -> bool
+    requires first { length first.now ≡ 256 }
+    requires second { length second.now ≡ 256 }
+    ensures { result ≡ true → first.now ≡ second.now }
+{
+    let mut same = true;
+    for index in 0..PIECE {
+        same = same & (first[index] == second[index]);
+    }
+    same
+}
+
+/// Whether all bytes of a piece are 0. Each byte is looked at, sixteen at once.
 pub(crate) fn are_zero(bytes: &[u8]) -> bool
+    requires { length bytes.now ≡ 256 }
     ensures { result ≡ true → (index : ℕ) → slice_index bytes.now index ≡ 0 }
 {
-    for index in 0..bytes.len() {
-        if bytes[index] != 0 {
-            return false;
-        }
+    let mut most = 0;
+    for index in 0..PIECE {
+        most = larger(most, bytes[index]);
     }
-    true
+    most == 0
+}
+
+#[inline(always)]
+fn larger(first: u8, second: u8) -> u8
+    ensures first { first ≤ result }
+    ensures second { second ≤ result }
+{
+    if first < second { second } else { first }
 }
 
 /// A hash of what was mixed so far and one more number.

@@ -24,6 +24,28 @@ pub struct KeptState<'c> {
     pub(crate) visits: LentVisits<'c>,
     pub(crate) byte_masks: Bytes,
     pub(crate) status_mask: u8,
+    pub(crate) hash: u32,
+}
+
+/// A hash of the parts of a state that are soon read.
+fn hash_of(
+    standing: &Standing,
+    memory: &[Laid],
+    masks: &[Laid],
+    register_masks: &[u32; 32],
+    byte_masks: &[u8],
+    status_mask: u8,
+) -> u32 {
+    let mut hash = mix(u64::from(standing.pc()), u64::from(status_mask));
+    hash = mix(hash, standing.output().len() as u64);
+    hash = mix_bytes(hash, byte_masks);
+    hash = mix_laids(hash, memory);
+    hash = mix_laids(hash, masks);
+    for register in 0..32 {
+        let value = u64::from(standing.registers().get(register));
+        hash = mix(hash, (value << 32) | u64::from(register_masks[register as usize]));
+    }
+    ended(hash)
 }
 
 impl<'c> KeptState<'c> {
@@ -50,16 +72,26 @@ impl<'c> KeptState<'c> {
         let memory = lay_memory(alloc, pieces, machine)?;
         let masks = lay_masks(alloc, pieces, shadow)?;
         let visits = visits.copy(alloc)?;
+        let register_masks = register_masks(shadow);
+        let hash = hash_of(
+            &standing,
+            memory.as_slice(),
+            masks.as_slice(),
+            &register_masks,
+            byte_masks,
+            status_mask,
+        );
         let byte_masks = Bytes::from_slice(alloc, byte_masks)?;
         Ok(KeptState {
             standing,
             memory: List::from_vec(memory),
             masks: List::from_vec(masks),
-            register_masks: register_masks(shadow),
+            register_masks,
             kept_masks: kept_masks(shadow),
             visits,
             byte_masks,
             status_mask,
+            hash,
         })
     }
 
@@ -105,7 +137,8 @@ impl<'c> KeptState<'c> {
     pub fn is_same(&self, other: &KeptState<'_>) -> bool
         ensures { result ≡ true → self.now ≡ other.now }
     {
-        self.status_mask == other.status_mask
+        self.hash == other.hash
+            && self.status_mask == other.status_mask
             && are_same_laids(self.memory.as_slice(), other.memory.as_slice())
             && are_same_laids(self.masks.as_slice(), other.masks.as_slice())
             && are_same_words(&self.register_masks, &other.register_masks)
@@ -117,18 +150,7 @@ impl<'c> KeptState<'c> {
 
     /// A hash of the parts of the state that are soon read.
     pub(crate) fn hash(&self) -> u32 {
-        let mut hash = mix(u64::from(self.standing.pc()), u64::from(self.status_mask));
-        hash = mix(hash, self.standing.output().len() as u64);
-        hash = mix_bytes(hash, self.byte_masks.as_slice());
-        hash = mix_laids(hash, self.memory.as_slice());
-        hash = mix_laids(hash, self.masks.as_slice());
-        for register in 0..32 {
-            hash = mix(hash, u64::from(self.standing.registers().get(register)));
-        }
-        for mask in &self.register_masks {
-            hash = mix(hash, u64::from(*mask));
-        }
-        ended(hash)
+        self.hash
     }
 
     /// About how many bytes of memory the state takes, but for its pieces and its visits.

@@ -6,21 +6,19 @@ ghost use Rattle.kept_states.specs.Pieces.{Grows};
 
 use crate::laids::{Laid, lay};
 use crate::pieces::Pieces;
+use crate::quiet_pages::{PAGES, next_set, next_touched};
 use flow_base::NoMemory;
 use rv32im_machine::Machine;
 use shadow_masks::Shadow;
 use std::alloc::Global;
 
-/// How many pages memory has.
-const PAGES: usize = 4096;
-
 /// How many pieces a page has.
-const IN_PAGE: usize = 16;
+pub(crate) const IN_PAGE: usize = 16;
 
 /// How many pieces memory has.
 const PIECES: usize = 65_536;
 
-/// Keeps the pieces of a page of guest memory. Nothing in one that was not touched is looked at.
+/// Keeps the pieces of a page of guest memory.
 fn lay_page(
     pieces: &mut Pieces,
     laids: &mut Vec<Laid>,
@@ -32,9 +30,6 @@ fn lay_page(
     ensures laid { OnOk result (LaidBelow pieces.new laids.new.items ((page + 1) * 16) (memory_byte machine.now)) }
     ensures grows { Grows pieces.old pieces.new }
 {
-    if !machine.is_touched(page) {
-        return Ok(());
-    }
     for place in 0..IN_PAGE {
         let number = page * IN_PAGE + place;
         lay(pieces, laids, number, number as u16, machine.piece(number))?;
@@ -42,7 +37,7 @@ fn lay_page(
     Ok(())
 }
 
-/// Keeps the pieces of guest memory.
+/// Keeps the pieces of guest memory. Nothing in a page that was not touched is looked at.
 pub(crate) fn lay_memory(
     alloc: Global,
     pieces: &mut Pieces,
@@ -52,8 +47,10 @@ pub(crate) fn lay_memory(
     ensures grows { Grows pieces.old pieces.new }
 {
     let mut laids = Vec::new(alloc);
-    for page in 0..PAGES {
+    let mut page = next_touched(machine, 0);
+    while page < PAGES {
         lay_page(pieces, &mut laids, machine, page)?;
+        page = next_touched(machine, page + 1);
     }
     Ok(laids)
 }
@@ -107,8 +104,10 @@ pub(crate) fn lay_masks(
     ensures grows { Grows pieces.old pieces.new }
 {
     let mut laids = Vec::new(alloc);
-    for page in 0..PAGES {
+    let mut page = next_set(shadow, 0);
+    while page < PAGES {
         lay_mask_page(pieces, &mut laids, shadow, page)?;
+        page = next_set(shadow, page + 1);
     }
     Ok(laids)
 }

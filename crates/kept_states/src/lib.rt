@@ -9,6 +9,8 @@ mod laying;
 mod number_table;
 mod pieces;
 mod putting;
+mod quiet_pages;
+mod settling;
 mod state_tables;
 
 pub use kept_states::KeptState;

@@ -1,14 +1,11 @@
 ghost use Rattle.std.specs.Prelude.{◌≡◌, [], ℕ, ◌+◌, ◌*◌, ◌<◌, ◌≤◌, length, slice_index, true, IfOk, IfSome};
 ghost use Rattle.kept_states.specs.Pieces.{byte_in, Grows, IsPiece};
 
-use crate::bytes::{are_same_bytes, ended, mix_bytes};
+use crate::bytes::{PIECE, are_same_pieces, ended, mix_bytes};
 use crate::number_table::{NumberTable, STEPS};
 use flow_base::NoMemory;
 use std::alloc::Global;
 use std::marker::Model;
-
-/// The bytes of a piece.
-pub(crate) const PIECE: usize = 256;
 
 /// The number that stands for the pieces of guest memory, and after them those of masks, in the table of what was kept
 /// last.
@@ -44,7 +41,7 @@ fn has(pieces: &[u8], piece: u32, bytes: &[u8]) -> bool
     ensures { result ≡ true → IsPiece pieces.now piece bytes.now }
 {
     let from = piece as usize * PIECE;
-    from + PIECE <= pieces.len() && are_same_bytes(&pieces[from..from + PIECE], bytes)
+    from + PIECE <= pieces.len() && are_same_pieces(&pieces[from..from + PIECE], bytes)
 }
 
 impl Pieces {

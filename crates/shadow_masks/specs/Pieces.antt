@@ -2,6 +2,8 @@
 use Rattle.std.specs.Prelude.{◌≡◌, ℕ, ◌+◌, ◌-◌, ◌*◌, ◌/◌, ◌%◌, ◌<◌, ◌==◌, ◌&&◌, nat_le, List, slice_index, if◌then◌else◌}
 use Rattle.flow_base.specs.Points.{nowhere}
 use Rattle.shadow_masks.specs.declared.labels.Label.{Label}
+use Rattle.shadow_masks.specs.Points.{page_size}
+use Rattle.shadow_masks.specs.Pages.{is_in_range}
 use Rattle.shadow_masks.specs.Shades.{Shades, byte_label}
 
 -- the bytes of a piece of guest memory, of which there are 65,536
@@ -24,6 +26,13 @@ piece_mask shades number offset = (byte_label shades (shades.base + number * pie
 abbrev pub AreMasks : Shades → ℕ → List ℕ → Type 0
 AreMasks shades number masks =
     (offset : ℕ) → offset < piece_size → slice_index masks offset ≡ piece_mask shades number offset
+
+-- the bytes of a page from the first on have the listed masks; every other mask of the page is the one that it was
+abbrev pub LaysMasks : ℕ → List ℕ → (ℕ → Label) → (ℕ → Label) → Type 0
+LaysMasks first masks old new =
+    (place : ℕ) → place < page_size →
+    (new place).mask
+    ≡ (if is_in_range first piece_size place then slice_index masks (place - first) else (old place).mask)
 
 -- new has the listed masks in a piece; every other mask is as in old
 abbrev pub SetsMasks : ℕ → List ℕ → Shades → Shades → Type 0

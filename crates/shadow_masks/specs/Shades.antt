@@ -1,6 +1,6 @@
 -- What a shadow holds, and what the calls that change it do.
 use Rattle.std.specs.Prelude.{◌≡◌, ℕ, ◌-◌, ◌/◌, ◌%◌, ◌<◌, ◌==◌, ◌&&◌, nat_lt, nat_le, List}
-use Rattle.std.specs.Prelude.{Option, None}
+use Rattle.std.specs.Prelude.{Bool, false, Option, None}
 use Rattle.std.specs.Prelude.{if◌then◌else◌, slice_index_or, length}
 use Rattle.shadow_masks.specs.declared.labels.Label.{Label}
 use Rattle.shadow_masks.specs.Labels.{clean}
@@ -27,6 +27,10 @@ kept_label shades register = slice_index_or shades.kept register clean
 -- the page of an address
 abbrev pub page_at : List (Option PageShades) → ℕ → Option PageShades
 page_at pages number = slice_index_or pages number None
+
+-- a page in which no label was set was not made
+abbrev pub AreUnmade : List Bool → List (Option PageShades) → Type 0
+AreUnmade set pages = (number : ℕ) → slice_index_or set number false ≡ false → page_at pages number ≡ None
 
 -- the label of the byte at an address: the one in its page, and clean outside memory
 abbrev pub label_at : ℕ → List (Option PageShades) → ℕ → Label

@@ -1,6 +1,6 @@
 //! The masks of a shadow, kept and put back in pieces of 256 bytes.
 
-ghost use Rattle.std.specs.Prelude.{◌≡◌, ◌+◌, ◌-◌, ◌*◌, ◌/◌, ◌<◌, ◌≤◌, ℕ, IfSome, IfNone, OnOk, OnErr, false, length, slice_index_or};
+ghost use Rattle.std.specs.Prelude.{◌≡◌, ◌+◌, ◌-◌, ◌*◌, ◌/◌, ◌<◌, ◌≤◌, ℕ, IfSome, IfNone, None, OnOk, OnErr, false, length, slice_index_or};
 ghost use Rattle.flow_base.specs.Guests.{memory_size};
 ghost use Rattle.shadow_masks.specs.Labels.{clean, IsLabel};
 ghost use Rattle.shadow_masks.specs.Pages.{label_in};
@@ -8,7 +8,7 @@ ghost use Rattle.shadow_masks.specs.Pieces.{listed_mask, piece_mask, piece_size,
 ghost use Rattle.shadow_masks.specs.Shades.{byte_label, kept_label, page_at, register_label, IsNew, SetsBytes, SetsFirstPart};
 
 use crate::labels::Label;
-use crate::page_slots::{clear_in, set_masks_in};
+use crate::page_slots::{clear_in, lay_masks_in, set_masks_in};
 use crate::pages::Page;
 use crate::shadows::{Shadow, clean_labels};
 use flow_base::NoMemory;
@@ -17,6 +17,7 @@ use flow_base::NoMemory;
 fn clear_pages(pages: &mut Vec<Option<Page>>)
     ensures length { length pages.new.items ≡ length pages.old.items }
     ensures clean { (number : ℕ) → (place : ℕ) → label_in (page_at pages.new.items number) place ≡ clean }
+    ensures none { (number : ℕ) → page_at pages.old.items number ≡ None → page_at pages.new.items number ≡ None }
 {
     for number in 0..pages.len() {
         clear_in(&mut pages[number]);
@@ -50,6 +51,17 @@ impl Shadow {
             (address - self.now.base) / 4096 ≡ page → byte_label self.now address ≡ clean }
     {
         self.pages[page].is_some()
+    }
+
+    /// Whether a label was set in a page of 4,096 bytes, 0 to 4,095; the bytes of one in which none was are clean. It
+    /// looks at a small table alone.
+    #[tactic(auto, using(crate::proofs::LaidMasks::clean_unset))]
+    pub fn is_set(&self, page: usize) -> bool
+        requires { page < 4096 }
+        ensures { result ≡ false → (address : ℕ) → self.now.base ≤ address →
+            (address - self.now.base) / 4096 ≡ page → byte_label self.now address ≡ clean }
+    {
+        self.set[page]
     }
 
     /// Nothing is done; a caller learns that a byte outside guest memory is clean.
@@ -110,6 +122,7 @@ impl Shadow {
     }
 
     /// The same, by the labels of the bytes.
+    #[tactic(auto, using(crate::proofs::LaidMasks::set_unmade))]
     fn put_piece(&mut self, number: usize, masks: &[u8]) -> Result<(), NoMemory>
         requires piece { number < 65536 }
         requires length { length masks.now ≡ piece_size }
@@ -119,7 +132,30 @@ impl Shadow {
             SetsFirstPart (self.old.base + number * piece_size) piece_size (listed_mask masks.now) self.old self.new) }
     {
         let alloc = self.alloc;
+        self.set[number / 16] = true;
         set_masks_in(
+            &mut self.pages[number / 16],
+            alloc,
+            number % 16 * 256,
+            masks,
+        )
+    }
+
+    /// Sets the masks of a piece of guest memory, 0 to 65,535; a byte whose mask is then not 0 may be of any point. Its
+    /// error is lack of memory; all masks then stay as they were.
+    #[tactic(auto, using(crate::proofs::LaidMasks::set_unmade))]
+    pub fn lay_piece(&mut self, number: usize, masks: &[u8]) -> Result<(), NoMemory>
+        requires piece { number < 65536 }
+        requires length { length masks.now ≡ piece_size }
+        ensures masks { OnOk result (SetsMasks number masks.now self.old self.new) }
+        ensures registers { self.new.registers ≡ self.old.registers }
+        ensures kept { self.new.kept ≡ self.old.kept }
+        ensures begins { self.new.base ≡ self.old.base }
+        ensures err { OnErr result (self.new ≡ self.old) }
+    {
+        let alloc = self.alloc;
+        self.set[number / 16] = true;
+        lay_masks_in(
             &mut self.pages[number / 16],
             alloc,
             number % 16 * 256,

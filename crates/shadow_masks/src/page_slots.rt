@@ -1,8 +1,8 @@
 //! The labels of a page that may not have been made.
 
-ghost use Rattle.std.specs.Prelude.{◌≡◌, ◌+◌, ◌<◌, ◌≤◌, ◌≢◌, ℕ, All, OnOk, OnErr, length, true};
+ghost use Rattle.std.specs.Prelude.{◌≡◌, ◌+◌, ◌<◌, ◌≤◌, ◌≢◌, ℕ, All, None, OnOk, OnErr, length, true};
 ghost use Rattle.shadow_masks.specs.Labels.{clean, IsByteLabel};
-ghost use Rattle.shadow_masks.specs.Pieces.{listed_mask};
+ghost use Rattle.shadow_masks.specs.Pieces.{listed_mask, piece_size, LaysMasks};
 ghost use Rattle.shadow_masks.specs.Pages.{label_in, labels_from, listed_label, AreClean, SetsFewer, SetsLabel};
 ghost use Rattle.shadow_masks.specs.Pages.{SetsPlaces};
 ghost use Rattle.shadow_masks.specs.Points.{page_size};
@@ -121,9 +121,34 @@ pub fn set_masks_in(
     Ok(())
 }
 
+/// Sets the masks of 256 bytes of a page from a place on. The page is made where need be; where memory is short all stays
+/// as it was.
+pub fn lay_masks_in(
+    page: &mut Option<Page>,
+    alloc: Global,
+    place: usize,
+    masks: &[u8],
+) -> Result<(), NoMemory>
+    requires place { place + piece_size ≤ page_size }
+    requires length { length masks.now ≡ piece_size }
+    ensures ok { OnOk result (LaysMasks place masks.now (label_in page.old) (label_in page.new)) }
+    ensures err { OnErr result (page.new ≡ page.old) }
+{
+    match page {
+        Some(made) => made.lay(place, masks),
+        None => {
+            let mut made = Page::new(alloc, place, Label::clean())?;
+            made.lay(place, masks);
+            *page = Some(made);
+        }
+    }
+    Ok(())
+}
+
 /// Makes each byte of a page clean. It takes no memory.
 pub fn clear_in(page: &mut Option<Page>)
-    ensures { (place : ℕ) → label_in page.new place ≡ clean }
+    ensures clean { (place : ℕ) → label_in page.new place ≡ clean }
+    ensures none { page.old ≡ None → page.new ≡ None }
 {
     if let Some(made) = page {
         made.clear();

@@ -3,8 +3,8 @@
 ghost use Rattle.std.specs.Prelude.{◌≡◌, ◌+◌, ◌<◌, ◌≤◌, ◌≢◌, ℕ, All, IfOk, OnOk, OnErr, true};
 ghost use Rattle.shadow_masks.specs.Labels.{clean, IsByteLabel};
 ghost use Rattle.shadow_masks.specs.Points.{page_size};
-ghost use Rattle.std.specs.Prelude.{length, slice_index};
-ghost use Rattle.shadow_masks.specs.Pieces.{piece_size};
+ghost use Rattle.std.specs.Prelude.{◌++◌, drop, length, slice_index, take};
+ghost use Rattle.shadow_masks.specs.Pieces.{piece_size, LaysMasks};
 ghost use Rattle.shadow_masks.specs.Pages.{page_label, label_from, labels_from, AreClean, IsOneLabel, SetsLabel};
 
 use crate::few_points::zeros;
@@ -31,6 +31,16 @@ impl Model for Page {
     ghost view = { λ p. record { masks = p.masks.items; points = p.points } };
 
     ghost invariant = { λ p. length p.masks.items ≡ page_size };
+}
+
+/// Lays masks over others from a place on.
+fn lay_over(under: &mut Vec<u8>, place: usize, masks: &[u8])
+    requires { place + length masks.now ≤ length under.old.items }
+    ensures laid { under.new.items ≡ take place under.old.items
+        ++ (masks.now ++ drop (place + length masks.now) under.old.items) }
+    ensures length { length under.new.items ≡ length under.old.items }
+{
+    under[place..place + masks.len()].copy_from_slice(masks);
 }
 
 impl Page {
@@ -142,5 +152,14 @@ impl Page {
         ensures length { length result.now ≡ piece_size }
     {
         &self.masks[place..place + 256]
+    }
+
+    /// Sets the masks of 256 bytes from a place on. It takes no memory.
+    pub fn lay(&mut self, place: usize, masks: &[u8])
+        requires place { place + piece_size ≤ page_size }
+        requires length { length masks.now ≡ piece_size }
+        ensures { LaysMasks place masks.now (page_label self.old) (page_label self.new) }
+    {
+        lay_over(&mut self.masks, place, masks);
     }
 }

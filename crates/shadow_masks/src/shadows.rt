@@ -1,5 +1,5 @@
 ghost use Rattle.std.specs.Prelude.{◌≡◌, ◌+◌, ◌^◌, ◌<◌, ◌≤◌, ◌≢◌, All, IfOk, OnOk, OnErr, IsTrue, List as Seq, [], ◌∷◌};
-ghost use Rattle.std.specs.Prelude.{length};
+ghost use Rattle.std.specs.Prelude.{length, vec_len};
 ghost use Rattle.std.specs.Prelude.{replicate, ℕ, None, true};
 ghost use Rattle.shadow_masks.specs.Labels.{clean, IsLabel, IsByteLabel};
 ghost use Rattle.shadow_masks.specs.Pages.{label_from, labels_from, AreClean};
@@ -25,21 +25,24 @@ pub struct Shadow {
     pub(crate) kept: [Label; 32],
     pub(crate) base: u32,
     pub(crate) pages: Vec<Option<Page>>,
+    /// Whether a label of each page was set: a small table, so that all pages are soon looked over.
+    pub(crate) set: Vec<bool>,
     pub(crate) alloc: Global,
 }
 
 impl Model for Shadow {
-    ghost use Rattle.std.specs.Prelude.{◌≡◌, ◌+◌, ◌^◌, ◌≤◌, length};
+    ghost use Rattle.std.specs.Prelude.{◌≡◌, ◌+◌, ◌^◌, ◌≤◌, length, vec_len};
     ghost use Rattle.shadow_masks.specs.Labels.{AreRegisterLabels};
     ghost use Rattle.flow_base.specs.Guests.{memory_size};
-    ghost use Rattle.shadow_masks.specs.Shades.{Shades};
+    ghost use Rattle.shadow_masks.specs.Shades.{AreUnmade, Shades};
 
     ghost Value = { Shades };
 
     ghost view = { λ s. record { registers = s.registers; kept = s.kept; base = s.base; pages = s.pages.items } };
 
     ghost invariant = { λ s. AreRegisterLabels s.registers × AreRegisterLabels s.kept
-        × (length s.pages.items ≡ 4096) × (s.base + memory_size ≤ 2 ^ 32) };
+        × (length s.pages.items ≡ 4096) × (s.base + memory_size ≤ 2 ^ 32)
+        × (vec_len s.set ≡ 4096) × AreUnmade s.set.items s.pages.items };
 }
 
 /// The clean label for each register.
@@ -62,6 +65,13 @@ fn no_pages(alloc: Global, count: usize) -> Result<Vec<Option<Page>>, NoMemory>
         }
     }
     Ok(pages)
+}
+
+/// For each of so many pages, that none of its labels was set.
+fn none_set(alloc: Global, count: usize) -> Result<Vec<bool>, NoMemory>
+    ensures { IfOk result (λ set. vec_len set ≡ count) }
+{
+    Ok(vec![in alloc; false; count]?)
 }
 
 /// Gives back each page that was made.
@@ -88,6 +98,7 @@ impl Shadow {
             kept: clean_labels(),
             base,
             pages: no_pages(alloc, 4096)?,
+            set: none_set(alloc, 4096)?,
             alloc,
         })
     }
@@ -98,14 +109,19 @@ impl Shadow {
         requires { base + memory_size ≤ 2 ^ 32 }
         ensures { IsNew base result }
     {
-        let Shadow { pages, alloc, .. } = place;
+        let Shadow {
+            pages, set, alloc, ..
+        } = place;
         let mut pages = pages;
+        let mut set = set;
         give_back_pages(&mut pages);
+        set.fill(false);
         Shadow {
             registers: clean_labels(),
             kept: clean_labels(),
             base,
             pages,
+            set,
             alloc,
         }
     }
@@ -203,6 +219,7 @@ impl Shadow {
 
     /// Sets the label of the byte at an address of memory; where memory of the host is short all stays as it was. A label
     /// that the byte has takes no memory.
+    #[tactic(auto, using(crate::proofs::LaidMasks::set_unmade))]
     pub fn set_byte(&mut self, address: u32, label: Label) -> Result<(), NoMemory>
         requires inside { IsTrue (is_inside self.old.base address 1) }
         requires label { IsByteLabel label }
@@ -212,6 +229,7 @@ impl Shadow {
     {
         let place = (address - self.base) as usize;
         let alloc = self.alloc;
+        self.set[place / 4096] = true;
         set_in(&mut self.pages[place / 4096], alloc, place % 4096, label)
     }
 
@@ -231,6 +249,7 @@ impl Shadow {
 
     /// Sets the labels of bytes of memory from an address on, as those of a store, each to the next of the list; where
     /// memory of the host is short only a first part of them is set.
+    #[tactic(auto, using(crate::proofs::LaidMasks::set_unmade))]
     pub fn set_bytes(&mut self, address: u32, labels: &[Label]) -> Result<(), NoMemory>
         requires inside { IsTrue (is_inside self.old.base address (length labels.now)) }
         requires some { 0 < length labels.now }
@@ -243,6 +262,7 @@ impl Shadow {
             return self.set_bytes_apart(address, labels);
         }
         let alloc = self.alloc;
+        self.set[first / 4096] = true;
         set_all_in(&mut self.pages[first / 4096], alloc, first % 4096, labels)?;
         Ok(())
     }

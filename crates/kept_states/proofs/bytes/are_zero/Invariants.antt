@@ -1,5 +1,5 @@
-use Rattle.std.proofs.Common.{◌≡◌, ◌<◌, ℕ, slice_index}
+use Rattle.std.proofs.Common.{◌<◌, ◌≤◌, ℕ, slice_index}
 use Rattle.kept_states.proofs.bytes.are_zero.Given as goal
 
 abbrev pub invariant-loop-index : goal.invariant-loop-index
-invariant-loop-index l = (at : ℕ) → at < l.index → slice_index l.bytes at ≡ 0
+invariant-loop-index l = (at : ℕ) → at < l.index → slice_index l.bytes at ≤ l.most

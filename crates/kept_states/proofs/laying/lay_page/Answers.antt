@@ -5,11 +5,6 @@ use Rattle.kept_states.proofs.Growing.{grows_trans}
 use Rattle.kept_states.proofs.LaidBytes.{below_at, below_page}
 use Rattle.kept_states.proofs.laying.lay_page.Goals as goal
 
-pub returns-then-not-is_touched-clause-laid : goal.returns-then-not-is_touched-clause-laid
-returns-then-not-is_touched-clause-laid c =
-    below_page c.args.pieces.now c.args.laids.now.items c.args.page (memory_byte c.args.machine.now)
-    (c.is_touched.ensures c.if-not-is_touched.true) c.requires.below
-
 pub loop-place-preserved : goal.loop-place-preserved
 loop-place-preserved c =
     let step : LaidBelow c.lay.new.pieces c.lay.new.laids.items (c.args.page * 16 + c.loop-place.place + 1)

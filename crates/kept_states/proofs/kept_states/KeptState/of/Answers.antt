@@ -24,14 +24,14 @@ returns-clause-keeps c =
       begins = c.requires;
       masks = all_masks c.lay_masks.new.pieces c.from_vec-2.result c.args.shadow.now masks
           c.tell_outside.ensures.below c.tell_outside.ensures.above;
-      registers = c.register_masks.ensures.masks;
+      registers = c.register_masks-register_masks.ensures.masks;
       kept_registers = c.kept_masks.ensures.masks;
       visits = c.in_ok-visits.ensures;
       byte_masks = c.in_ok-byte_masks.ensures;
       status_mask = refl;
       returns = record {
         fits = c.in_ok-standing.ensures.fits;
-        zero = c.register_masks.ensures.zero;
+        zero = c.register_masks-register_masks.ensures.zero;
         kept_zero = c.kept_masks.ensures.zero;
         memory = memory.within;
         masks = masks.within;

@@ -10,6 +10,8 @@ invariant_of-self c = (
   clean_are_register_labels _ (each_clean _ c.clean_labels-kept.ensures),
   c.clear_pages.ensures.length ∙ c.self.invariant.2,
   c.self.invariant.3,
+  c.self.invariant.4,
+  λ number unset. c.clear_pages.ensures.none number (c.self.invariant.5 number unset),
 )
 
 pub returns : goal.returns

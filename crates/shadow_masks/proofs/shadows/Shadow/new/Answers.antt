@@ -7,6 +7,8 @@ invariant_of-result c = (
   clean_are_register_labels _ (each_clean _ c.clean_labels-2.ensures),
   c.in_ok-no_pages.ensures.length,
   c.requires,
+  c.in_ok-none_set.ensures,
+  λ number unset. c.in_ok-no_pages.ensures.none number,
 )
 
 pub returns : goal.returns

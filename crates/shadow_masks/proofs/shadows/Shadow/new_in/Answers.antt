@@ -8,6 +8,8 @@ invariant_of-result c = (
   clean_are_register_labels _ (each_clean _ c.clean_labels-2.ensures),
   c.give_back_pages.ensures.length ∙ c.place.invariant.2,
   c.requires,
+  c.fill.ensures.len ∙ c.place.invariant.4,
+  λ number unset. c.give_back_pages.ensures.none number,
 )
 
 pub returns : goal.returns

@@ -20,13 +20,13 @@ returns-clause-err c =
       base = base;
       pages = slice_set pages (number / 16) c.set_masks_in.new.page;
     } in
-    let same : c.index_mut.result.now ≡ page_at pages (number / 16) =
-    c.index_mut.ensures.value ∙ any_default pages (number / 16) _ None within in
+    let same : c.index_mut-2.result.now ≡ page_at pages (number / 16) =
+    c.index_mut-2.ensures.value ∙ any_default pages (number / 16) _ None within in
     map_err c.set_masks_in.result
-    (λ (fewer : SetsFewer (number % 16 * 256) (length masks) (listed_mask masks) (label_in c.index_mut.result.now) (label_in c.set_masks_in.new.page)).
+    (λ (fewer : SetsFewer (number % 16 * 256) (length masks) (listed_mask masks) (label_in c.index_mut-2.result.now) (label_in c.set_masks_in.new.page)).
     subst (λ (old : Shades). SetsFirstPart (old.base + number * 256) 256 (listed_mask masks) old new) c.self.view_is
     (part_of_piece c.self.inside.registers c.self.inside.kept base number (listed_mask masks) pages
     c.set_masks_in.new.page c.requires.piece size
     (subst (λ page. SetsFewer (number % 16 * 256) 256 (listed_mask masks) (label_in page) (label_in c.set_masks_in.new.page)) same
-    (subst (λ n. SetsFewer (number % 16 * 256) n (listed_mask masks) (label_in c.index_mut.result.now) (label_in c.set_masks_in.new.page)) c.requires.length fewer))))
+    (subst (λ n. SetsFewer (number % 16 * 256) n (listed_mask masks) (label_in c.index_mut-2.result.now) (label_in c.set_masks_in.new.page)) c.requires.length fewer))))
     c.set_masks_in.ensures.err

@@ -19,8 +19,8 @@ returns-clause-ok c =
       base = base;
       pages = slice_set pages number c.set_all_in.new.page;
     } in
-    let same : c.index_mut.result.now ≡ page_at pages number =
-    c.index_mut.ensures.value ∙ any_default pages number _ None within in
+    let same : c.index_mut-2.result.now ≡ page_at pages number =
+    c.index_mut-2.ensures.value ∙ any_default pages number _ None within in
     subst (λ old. SetsBytes address (length labels) (listed_label labels) old new) c.self.view_is
     (sets_in_page c.self.inside.registers c.self.inside.kept base address (length labels) (listed_label labels) pages
     c.set_all_in.new.page from c.if-first-labels-gt4096.false within
@@ -42,8 +42,8 @@ returns-in_err-set_all_in-clause-err c =
       base = base;
       pages = slice_set pages number c.set_all_in.new.page;
     } in
-    let same : c.index_mut.result.now ≡ page_at pages number =
-    c.index_mut.ensures.value ∙ any_default pages number _ None within in
+    let same : c.index_mut-2.result.now ≡ page_at pages number =
+    c.index_mut-2.ensures.value ∙ any_default pages number _ None within in
     on_err c.from_residual.result
     (subst (λ old. SetsFirstPart address (length labels) (listed_label labels) old new) c.self.view_is
     (sets_part_in_page c.self.inside.registers c.self.inside.kept base address (length labels) (listed_label labels) pages

@@ -1,7 +1,7 @@
 use Rattle.std.proofs.Common.{◌≡◌, ◌≤◌, length, drop}
 use Rattle.rv32im_machine.specs.Standing.{with_memory}
 use Rattle.kept_states.specs.Keeping.{AreLaid}
-use Rattle.kept_states.proofs.putting.put_memory.Given as goal
+use Rattle.kept_states.proofs.putting.lay_anew.Given as goal
 
 abbrev pub invariant-loop-index : goal.invariant-loop-index
 invariant-loop-index l = record {

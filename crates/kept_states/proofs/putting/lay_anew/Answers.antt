@@ -6,7 +6,7 @@ use Rattle.rv32im_machine.specs.Start.{zeros}
 use Rattle.rv32im_machine.proofs.Laying.{zeros_byte, zeros_length}
 use Rattle.kept_states.specs.declared.laids.Laid.{Laid}
 use Rattle.kept_states.proofs.LastFirst.{memory_none, memory_step, same_with, within_at}
-use Rattle.kept_states.proofs.putting.put_memory.Goals as goal
+use Rattle.kept_states.proofs.putting.lay_anew.Goals as goal
 
 none : Laid
 none = record { number = 0; piece = 0 }
