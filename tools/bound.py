@@ -19,25 +19,25 @@ many walks, until there are as many as are allowed.
 
 Prints the rounds, then in words what is bounded, or why not and what to change. Where as many walks as are allowed are
 too few, it names the decision at which most states part, and what keeps them apart. Where no region is listed and no
-path stops, it speaks of all secrets; else of every secret whose run ends and breaks no region. On a terminal it says
-meanwhile which call of `bound` it waits for. The status is 0 where it is bounded."""
+path stops, it speaks of all secrets; else of every secret whose run ends and breaks no region: then it says of how many
+of 200 random secrets that is, and which regions the others break. On a terminal it says meanwhile which call of `bound`
+it waits for. The status is 0 where it is bounded. best.py tries several ways, and regions too."""
 import os
 import sys
-import textwrap
 
 HERE = os.path.dirname(os.path.abspath(__file__))
 sys.path[:0] = [os.path.join(HERE, "explain"), os.path.join(HERE, "model")]
 
-from answering import Program, command_words
+from answering import Program
 from bound_words import bounded_lines, unclear_lines
 from bounding import SEARCH_RULES, Bounding, NoBound, found
 from parting import Parting
 from run_facts import Inputs
-from run_words import parser_of
+from run_words import length_of, parser_of
+from sampling import trust_of
 from source_lines import Places
-from tool import finish, program_of, told
+from tool import finish, program_of, told, wrapped
 
-MOST_LENGTH, WIDTH = 65_536, 115
 OPTIONS = ("regions", "turns", "rules", "paths")
 
 
@@ -54,12 +54,6 @@ def arguments():
     return parser.parse_intermixed_args()
 
 
-def length_of(secrets):
-    """The length that stands for the secrets, or None."""
-    is_length = len(secrets) == 1 and secrets[0].isdigit() and not os.path.exists(secrets[0])
-    return int(secrets[0]) if is_length and int(secrets[0]) <= MOST_LENGTH else None
-
-
 def find(bounding, words, tell):
     """The answer with its walk, and the number that was measured."""
     length = length_of(words.secrets)
@@ -69,22 +63,17 @@ def find(bounding, words, tell):
     return *found(bounding, beginnings, words.rounds, bits, tell), bits
 
 
-def command(words, answer, bounding):
-    """The words that ask again."""
-    named = words.program, words.public, words.output, str(answer.budget)
-    return [*command_words(), "bound", *named, *bounding.inputs.options, *bounding.flags(), "--list"]
-
-
 def parting_of(bounding, answer):
     """Where most states part, if there are too many paths."""
     return Parting(bounding.task(answer.cut, answer.budget)) if answer.is_waiting() else None
 
 
-def say(lines):
-    """Prints lines; sentences are broken where they are long."""
-    for line in lines:
-        is_sentence = not line.startswith(" ")
-        print(textwrap.fill(line, WIDTH, break_long_words=False, break_on_hyphens=False) if is_sentence else line)
+def trust_lines(words, bounding, answer):
+    """Of how many random secrets an answer with regions speaks, and which regions are broken."""
+    secret = words.secrets[0] if length_of(words.secrets) is None else None
+    named = Inputs(words.program, words.public, secret, bounding.inputs.options)
+    trust = trust_of(bounding.asked, named, bounding.program, answer.cut.secret_length)
+    return [trust.covers_words(), *trust.sentences()] if trust else []
 
 
 def main():
@@ -99,12 +88,12 @@ def main():
         return told(str(fault), 1)
     with open(words.output, "w", encoding="utf-8") as out:
         out.write(answer.cut.text())
-    again = command(words, answer, bounding)
+    again, beside = bounding.again(words.output, answer), trust_lines(words, bounding, answer)
     if answer.is_bounded:
-        say(bounded_lines(answer, words.public, bounding.turns, bits, again))
+        print(wrapped(bounded_lines(answer, words.public, bounding.turns, bits, again, beside)))
         return 0
     parting = parting_of(bounding, answer)
-    say(unclear_lines(answer, walk, program, Places(words.program, program), again, parting))
+    print(wrapped(unclear_lines(answer, walk, program, Places(words.program, program), again, parting, beside)))
     return 1
 
 

@@ -13,7 +13,8 @@ it. Of several that lower it alike the one is kept with which `check` accepts mo
   --turns N, --rules N as of `measure`
   --flowcheck COMMAND  the program; without it FLOWCHECK, else the one built or installed with this, else the model
 
-Prints a table of what was kept, and the commands that measure and check with it. On a terminal it says meanwhile how
+Prints a table of what was kept, the commands that measure and check with it, and how many of 200 random secrets break
+none of the regions. On a terminal it says meanwhile how
 many measurements were made."""
 import os
 import shlex
@@ -25,12 +26,14 @@ sys.path[:0] = [os.path.join(HERE, "explain"), os.path.join(HERE, "model")]
 
 from answering import Program, command_words
 from document import Table
-from enclosing import Search, candidates_of
+from enclosing import Search, candidates_of, passed_points
 from region_finding import NoRegion
 from region_joining import Learner, pretty_text
+from run_facts import Inputs
 from run_words import parser_of
+from sampling import trust_of
 from source_lines import Places
-from tool import finish, program_of, told
+from tool import finish, program_of, told, wrapped
 from verdicts import USUAL_TURNS
 
 NONE = (
@@ -62,7 +65,9 @@ def find(words):
     learner = Learner(asked, program, (words.program, words.public), words.turns)
     rules = ["--rules", words.rules] if words.rules else []
     search = Search(learner, words.secrets, rules, words.most, words.jobs)
-    candidates = candidates_of(program, Places(words.program, program), search.passed())
+    options = ["--turns", str(words.turns), *rules]
+    passed = passed_points(asked, Inputs(words.program, words.public, None, options), words.secrets[0])
+    candidates = candidates_of(program, Places(words.program, program), passed)
     try:
         return search.search(candidates), len(candidates), search.measured
     finally:
@@ -106,6 +111,10 @@ def main():
     print(f"The regions are in {words.output}:")
     for line in commands(words, kept[-1].bits):
         print("    " + line)
+    options = ["--regions", words.output, "--turns", str(words.turns)]
+    inputs = Inputs(words.program, words.public, words.secrets[0], options)
+    trust = trust_of(Program(words.flowcheck), inputs, program_of(words.program))
+    print(wrapped([f"{trust.kept():,} of {len(trust.secrets):,} random secrets break none.", *trust.sentences()]))
     return 0
 
 

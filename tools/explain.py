@@ -13,6 +13,8 @@ outputs that `bound` lists, with the states at which bits are chosen where there
 measured of a secret that is named; with --any-public it is of any public input of the length of PUBLIC. Each writes one
 HTML file, which needs nothing beside it, or with --text a text for a terminal.
 
+  --seconds N          of measured secrets: looks for the least bound of all outputs too, in so many seconds, as best.py
+                       does; its cut is written beside the page, as NAME.bound.cut. Without it none is looked for
   --against CUT        of one secret: this measurement beside an earlier one, of which there is a cut or a page
   --output FILE        the file of the page; without it `explain.html`, and `-` is standard output
   --text               a text on standard output
@@ -30,17 +32,19 @@ sys.path[:0] = [os.path.join(HERE, "explain"), os.path.join(HERE, "model")]
 
 from against import Earlier
 from answering import Program
-from bound_page import bound_page, bounded_of
+from best import BestBound
+from best_words import kept_files
+from bound_page import best_section, bound_page, bounded_of, pointer_section
 from bounding import NoBound
 from document import html_page, text_page
 from many_page import many_page
 from many_runs import ManyRuns
 from measured_page import NO_NUMBER, measured_page, refused_page
-from misleading import TITLE, of_cut, of_run, program_section, section_of
+from misleading import TITLE, of_cut, of_run, of_trust, program_section, section_of
 from rejection import Rejection
 from rejection_page import rejection_page
 from run_facts import Inputs, NoMeasure, RunFacts, read
-from run_words import parser_of
+from run_words import number, parser_of
 from source_lines import Places
 from taint_page import taint_page
 from tainting import Tainting
@@ -58,6 +62,7 @@ def arguments():
     for name in ("--turns", "--regions", "--rules", "--paths"):
         parser.add_argument(name)
     parser.add_argument("--any-public", action="store_true")
+    parser.add_argument("--seconds", type=number(0, kind=float), default=0, metavar="N")
     parser.add_argument("--against", metavar="CUT")
     parser.add_argument("--output", default="explain.html")
     parser.add_argument("--text", action="store_true")
@@ -81,7 +86,24 @@ def page(words):
     """The title and the sections of the page."""
     program = program_of(words.program)
     title, sections = page_of(words, program)
-    return title, [section for section in sections if section] + [program_section(words.program, program.file)]
+    sections = [section for section in sections if section]
+    if words.secret and words.seconds and not title.startswith(NO_NUMBER):
+        sections.insert(1, searched_section(words, program))
+    else:
+        sections.append(pointer_section(words))
+    return title, [*sections, program_section(words.program, program.file)]
+
+
+def searched_section(words, program):
+    """The least bound of all outputs that is found within the seconds."""
+    options = [word for name in ("regions", "turns") if getattr(words, name)
+               for word in (f"--{name}", getattr(words, name))]
+    search = BestBound(Program(words.flowcheck), Inputs(words.program, words.public, None, options), program,
+                       words.secret, len(read(words.secret[0])), False, words.seconds, lambda text: None)
+    if search.search() is None:
+        return pointer_section(words)
+    name = os.path.splitext("explain" if words.text or words.output == "-" else words.output)[0]
+    return best_section(search, kept_files(search, f"{name}.bound"))
 
 
 def page_of(words, program):
@@ -99,17 +121,21 @@ def page_of(words, program):
         title, sections = (taint_page if words.taint else rejection_page)(seen, program, places)
         lockstep = None if words.taint else seen.lockstep
         notes = of_cut(program, seen.cut, seen.regions) + of_run(lockstep and lockstep.real, seen.cut, secret)
+        notes += of_trust(asked, Inputs(words.program, words.public, secret, flat), program)
         return title, [*sections[:1], section_of(notes), *sections[1:]]
     if words.bound:
         bounded = bounded_of(asked, words, flat, program)
         title, sections = bound_page(bounded, program, places)
-        return title, [*sections[:1], section_of(of_cut(program, bounded.cut, bounded.inputs.regions())), *sections[1:]]
+        notes = of_cut(program, bounded.cut, bounded.inputs.regions())
+        notes += bounded.trust.sentences() if bounded.trust else []
+        return title, [*sections[:1], section_of(notes), *sections[1:]]
     inputs = Inputs(words.program, words.public, words.secret[0], flat)
     try:
         if len(words.secret) > 1:
-            return many_page(ManyRuns(asked, inputs, words.secret, program), program, places)
+            notes = of_trust(asked, inputs, program)
+            return many_page(ManyRuns(asked, inputs, words.secret, program), program, places, notes)
         earlier = Earlier(words.against) if words.against else None
-        return measured_page(RunFacts(asked, inputs), program, places, earlier)
+        return measured_page(RunFacts(asked, inputs), program, places, earlier, of_trust(asked, inputs, program))
     except NoMeasure as refusal:
         return refused_page(str(refusal), inputs, program, places)
 

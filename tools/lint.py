@@ -6,7 +6,8 @@ Without a cut it looks at the region file that --regions names, and at the runs 
 
   --regions FILE the region file, as REGIONS
   --secret FILE  a secret; may be given more than once. The guest is run on each, by the model: how much of it the guest
-                 reads is looked at, and which points of the cut no run passes
+                 reads is looked at, and which points of the cut no run passes; with regions, how many of 200 random
+                 secrets of the same length break each is said too
   --public FILE  the public input of these runs; without it, none
   --turns N      the turns within which these runs must exit; 1000000 without it
   --quiet        print findings alone, on standard error, and leave out runs of more than 200,000 turns
@@ -22,12 +23,13 @@ import sys
 HERE = os.path.dirname(os.path.abspath(__file__))
 sys.path[:0] = [os.path.join(HERE, "explain"), os.path.join(HERE, "model")]
 
+from answering import Program
 from cuts import Cut, read_cut, read_regions
 from faults_of_text import cut_text_fault, regions_text_fault
 from linting import Lint
-from misleading import of_number, of_passed, of_reads
+from misleading import of_number, of_passed, of_reads, of_trust
 from noted_run import MOST_TURNS
-from run_facts import read
+from run_facts import Inputs, read
 from running import run_by_model
 from tool import finish, program_of
 from verdicts import USUAL_TURNS
@@ -75,6 +77,12 @@ def found_by_runs(words, image, cut, regions):
     return found
 
 
+def found_by_random(words, program):
+    """What random secrets show of the regions."""
+    options = ["--regions", words.regions, "--turns", str(words.turns)]
+    return of_trust(Program(), Inputs(words.program, words.public, words.secret[0], options), program)
+
+
 def main():
     """Prints the findings."""
     words = arguments()
@@ -86,6 +94,7 @@ def main():
     regions = read_regions(read(words.regions)) if words.regions else None
     findings = Lint(program, cut or Cut(0), regions).all()
     findings += found_by_runs(words, program.image, cut, regions or [])
+    findings += found_by_random(words, program) if regions and words.secret else []
     if findings or not words.quiet:
         print("\n".join(findings) or "nothing found", file=sys.stderr if words.quiet else sys.stdout)
     return 1 if findings else 0

@@ -10,9 +10,12 @@ from flowcheck import Disk
 
 
 def command_words():
-    """How the program is called from the folder where one stands: by its name, by its place, or the model."""
+    """How the program is called from the folder where one stands: by its name, as FLOWCHECK says, by its place, or the
+    model."""
     if shutil.which("flowcheck"):
         return ["flowcheck"]
+    if os.environ.get("FLOWCHECK"):
+        return program_words()
     beside = program_beside()
     return [os.path.relpath(beside)] if beside else script_words(os.path.join("model", "flowcheck.py"))
 

@@ -3,12 +3,13 @@ the choices that lead to them; or why that is unclear, and what to change."""
 import shlex
 from os.path import basename as base
 
-from answering import command_words
+from answering import command_words, script_words
+from best_words import beside_lines
 from bound_words import ADVICE, FREE_WORDS, advice_at, claim, numbers_words, parting_lines, reason_kind
 from bounding import Bounding, choices_by_point
 from cuts import read_cut
 from decision_tree import MOST_STATES, MOST_WAYS, DecisionGraph, GraphLines, Leaf, TooMany, address_words
-from document import Commands, Section, Table, Words
+from document import Commands, Folded, Section, Table, Words
 from faults_of_text import cut_text_fault
 from graph_picture import GraphPicture
 from guest import shown
@@ -17,8 +18,13 @@ from parting import Parting
 from pieces_of_code import Marks, listing_blocks, source_blocks
 from rejection_page import KINDS, lines_table, point_text
 from run_facts import Inputs, read
+from sampling import trust_of
 
-MOST_OUTPUTS, TREE = 50, "The decisions"
+MOST_OUTPUTS, TREE, WHATEVER = 50, "The decisions", "Whatever the secret is"
+POINTER = (
+    "A number that is measured is that of a run. This looks for the least bound of the outputs of all secrets, and so "
+    "does make NAME.bound with the makefile for guests:"
+)
 NOT_SAID = (
     "It is said for {public}, and for secrets of this length. It is not said of time, and not of how likely a secret "
     "is. A listed output need not be that of a secret."
@@ -44,6 +50,8 @@ class Bounded:
         if self.secret:
             self.measured = self.bounding.measured([self.secret]).bits
         self.graph, self.walk, self.parting = None, None, None
+        named = Inputs(inputs.program, inputs.public, self.secret, inputs.options)
+        self.trust = trust_of(asked, named, program, self.cut.secret_length)
         if self.answer.is_bounded:
             self.graph = self.whole_graph()
             return
@@ -74,6 +82,7 @@ def claim_section(bounded):
     if answer.is_bounded:
         bits = answer.numbers["bits"]
         blocks = [Words(claim(answer, turns), "number", bits), Words(numbers_words(answer, bounded.measured))]
+        blocks += [Words(bounded.trust.covers_words())] if bounded.trust else []
         public = "any public input of this length" if bounded.bounding.is_any_public else "this public input"
         return Section("", *blocks, Words(answer.line, "dim"), Words(NOT_SAID.format(public=public), "dim"))
     kind, length = reason_kind(answer.reason), answer.cut.secret_length
@@ -82,20 +91,47 @@ def claim_section(bounded):
     return Section("", *blocks, Words(ADVICE[kind]))
 
 
-def outputs_section(bounded):
+def outputs_blocks(answer):
     """The outputs that there can be."""
-    patterns = bounded.answer.patterns
+    patterns = answer.patterns
     if not patterns:
-        return None
+        return []
     rows = [[str(number), pattern.bytes_text(), pattern.status_text(), str(pattern.free)]
             for number, pattern in enumerate(patterns[:MOST_OUTPUTS], 1)]
     table = Table(["Output", "Bytes", "Status", "Free bits"], rows, [{"data-output": row[0]} for row in rows], "points")
     blocks = [Words(FREE_WORDS, "dim")] if any(pattern.free for pattern in patterns) else []
     more = len(patterns) - MOST_OUTPUTS
     blocks += [Words(f"{more:,} more are not shown.", "dim")] if more > 0 else []
-    stopped = bounded.answer.stopped_line
+    stopped = answer.stopped_line
     blocks += [Words(f"The first path that stops: {stopped}")] if stopped else []
-    return Section("All outputs that there can be", table, *blocks)
+    return [table, *blocks]
+
+
+def outputs_section(bounded):
+    """The section of the outputs that there can be."""
+    blocks = outputs_blocks(bounded.answer)
+    return Section("All outputs that there can be", *blocks) if blocks else None
+
+
+def best_section(search, again):
+    """The least bound that was found of the outputs, on the page of a measured run."""
+    answer, turns = search.best.answer, search.best.way.bounding.turns
+    if answer.is_bounded:
+        blocks = [Words(claim(answer, turns), "number"), Words(numbers_words(answer, search.measured))]
+    else:
+        blocks = [Words(f"No bound was found of all secrets: {answer.line}", "number"),
+                  Words(ADVICE[reason_kind(answer.reason)])]
+    blocks += [Words(line) for line in beside_lines(search)] + outputs_blocks(answer)
+    blocks.append(Folded("The cut", answer.cut.text().rstrip("\n").split("\n")))
+    told = f"It was looked for by {script_words('best.py')[1]}, which ended as {search.why}. To ask again:"
+    return Section(WHATEVER, *blocks, Words(told), Commands([shlex.join(again)]))
+
+
+def pointer_section(words):
+    """How to come to a bound of all secrets, on every other page."""
+    secret = [*words.secret, *(words.check or words.taint or ["SECRET"])[-1:]][0]
+    command = shlex.join([*script_words("best.py"), words.program, words.public, secret])
+    return Section(WHATEVER, Words(POINTER), Commands([command]))
 
 
 def tree_section(bounded, places):

@@ -52,12 +52,40 @@ def bytes_words(length):
     return f"{length:,} byte{'' if length == 1 else 's'}"
 
 
+def inputs_bits(numbers):
+    """How many bits all secrets have, with the public inputs where these may be any."""
+    return 8 * (numbers["secret"] + (numbers.get("public") or 0))
+
+
+def least_count(numbers):
+    """How many outputs there are at most: no more than there are inputs."""
+    count = 1 << numbers["bits"] if numbers["outputs"] is None else numbers["outputs"]
+    return min(count, 1 << inputs_bits(numbers))
+
+
+def is_no_bound(numbers):
+    """Whether there may be as many outputs as there are inputs."""
+    return inputs_bits(numbers) > 0 and least_count(numbers) == 1 << inputs_bits(numbers)
+
+
+def power_words(count):
+    """A number, as a power of two where it is large and one."""
+    return f"2^{count.bit_length() - 1}" if count > 1 << 20 and count.bit_count() == 1 else f"{count:,}"
+
+
+def all_words(numbers):
+    """How many secrets there are, or pairs, where there may be as many outputs."""
+    kind = "secrets" if numbers.get("public") is None else "pairs of a public input and a secret"
+    return f"no bound: all {power_words(1 << inputs_bits(numbers))} {kind} may have outputs of their own"
+
+
 def count_words(numbers):
     """How many outputs there are at most."""
-    count, bits = numbers["outputs"], numbers["bits"]
-    if count is None:
-        return f"one of at most 2^{bits}"
-    return f"one of {count:,}" if count > 1 else "the one below"
+    if is_no_bound(numbers):
+        return f"one of {power_words(least_count(numbers))}: {all_words(numbers)}"
+    if numbers["outputs"] is None:
+        return f"one of at most 2^{numbers['bits']}"
+    return f"one of {numbers['outputs']:,}" if numbers["outputs"] > 1 else "the one below"
 
 
 def claim(answer, turns):
@@ -128,12 +156,13 @@ def output_lines(patterns, most):
     return lines + ([f"    and {len(patterns) - most:,} more"] if len(patterns) > most else [])
 
 
-def bounded_lines(answer, public, turns, bits, again):
-    """What stands, as lines."""
+def bounded_lines(answer, public, turns, bits, again, beside=()):
+    """What stands, as lines; `beside` are lines of what else is known."""
     lines = ["", claim(answer, turns), numbers_words(answer, bits)]
     lines += output_lines(answer.patterns, MOST_SHOWN)
     lines += [FREE_WORDS] if any(pattern.free for pattern in answer.patterns) else []
     lines += [f"First path that stops: {answer.stopped_line}"] if answer.stopped_line else []
+    lines += beside
     said = f"the public input {public} and this length" if answer.numbers.get("public") is None else "these lengths"
     return lines + [f"It is said for {said}, and not of time. To ask again:", "    " + shlex.join(again)]
 
@@ -164,8 +193,8 @@ def parting_lines(parting, program, places):
     return lines + [f"    {line}" for line in parting.differences.lines(program, places)] + [STATES]
 
 
-def unclear_lines(answer, walk, program, places, again, parting=None):
-    """Why it is unclear, and what to change, as lines."""
+def unclear_lines(answer, walk, program, places, again, parting=None, beside=()):
+    """Why it is unclear, and what to change, as lines; `beside` are lines of what else is known."""
     words, length = answer.reason.split(), answer.cut.secret_length
     kind, plural = reason_kind(answer.reason), f"{length:,} byte{'' if length == 1 else 's'}"
     lines = ["", f"Nothing is known of all secrets of {plural}: unclear {answer.reason}.", ADVICE[kind]]
@@ -180,4 +209,4 @@ def unclear_lines(answer, walk, program, places, again, parting=None):
         for point, count in counted[:MOST_POINTS]:
             lines.append(f"    {count} at {point_words(point, program, places)}")
         lines.append(advice_at(counted[0][0]))
-    return lines + ["The cut so far, and the call:", "    " + shlex.join(again)]
+    return [*lines, *beside, "The cut so far, and the call:", "    " + shlex.join(again)]

@@ -3,6 +3,7 @@ import re
 import tempfile
 from collections import Counter
 
+from answering import command_words
 from bounds import Task
 from cuts import Cut, point_order, read_cut
 from guest import shown
@@ -125,6 +126,11 @@ class Bounding:
         """The words without a value."""
         return ["--any-public"] if self.is_any_public else []
 
+    def again(self, cut_name, answer):
+        """The words that ask again with a file of the cut."""
+        named = self.inputs.program, self.inputs.public, cut_name, str(answer.budget)
+        return [*command_words(), "bound", *named, *self.inputs.options, *self.flags(), "--list"]
+
     def task(self, cut, budget):
         """What is walked, for the model."""
         limits = budget, self.turns, self.paths, self.is_any_public
@@ -149,10 +155,10 @@ class Bounding:
 
 class Search:
     """A search for a cut that begins with one and gives it what it lacks, in some rounds and with so many walks. `tell`
-    is told of each."""
+    is told of each. What a decision is made of crosses in its place where that has a few bits, at most `few`."""
 
-    def __init__(self, bounding, rounds, paths, tell):
-        self.bounding, self.rounds, self.paths, self.tell = bounding, rounds, paths, tell
+    def __init__(self, bounding, rounds, paths, tell, few=0):
+        self.bounding, self.rounds, self.paths, self.tell, self.few = bounding, rounds, paths, tell, few
 
     def search(self, cut):
         """The last answer, and the walk of its path where it is unclear."""
@@ -171,7 +177,7 @@ class Search:
             walk = self.bounding.walk(answer)
             if walk.unclear != answer.reason and words[0] not in ("paths", "outputs"):
                 raise NoBound(f"the model in tools/model says another thing, which is a fault: {walk.unclear}")
-            lines = self.added(cut, walk.missing())
+            lines = self.added(cut, walk.missing(self.few))
             if not lines:
                 return answer, walk
             self.tell(f"{answer.reason}: {', '.join(lines)}")

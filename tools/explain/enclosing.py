@@ -70,6 +70,35 @@ def lines_text(places, inside, function):
     return f"{function.name} {os.path.basename(file)}:{numbers[0]}-{numbers[-1]}"
 
 
+def passed_points(asked, inputs, secret):
+    """The points at which secret bits pass in a run without regions, and how many."""
+    words = [inputs.program, inputs.public, secret, *inputs.without("--regions", "--paths")]
+    status, text = asked.answer(["graph", *words])
+    if status:
+        raise NoRegion(text.strip())
+    return {point: capacity for point, capacity, _, _ in Certificate(text).points}
+
+
+def joined_regions(learner, calls, chosen, secrets, is_lenient=False):
+    """The regions of some candidates, as all secrets need them, but those in which nothing is written. Secrets whose
+    runs do not exit are passed over where it is lenient."""
+    enclosures = sorted((one for candidate in chosen for one in candidate.enclosures), key=lambda one: one.enter)
+    declarations = [Declaration(one.bare(number)) for number, one in enumerate(enclosures, 1)]
+    for number, secret in enumerate(secrets if declarations else []):
+        try:
+            learnt = learner.learnt([one.region for one in declarations], secret)
+        except NoRegion:
+            if is_lenient and number:
+                continue
+            raise
+        for declaration, region in zip(declarations, learnt):
+            declaration.add(region)
+    written = [pair for pair in zip(enclosures, declarations) if not pair[1].is_empty()]
+    for enclosure, declaration in written:
+        declaration.add_code(*enclosure.may_write(calls), enclosure.is_call)
+    return [declaration.whole() for _, declaration in written]
+
+
 class Trial:
     """Candidates together, as they were learnt and measured: their regions, the number and the text of the cut."""
 
@@ -90,30 +119,10 @@ class Search:
         named = [command, self.learner.program_name, self.learner.public_name, *words]
         return self.learner.asked.answer([*named, "--turns", str(self.learner.limit)])
 
-    def passed(self):
-        """The points at which secret bits pass without regions, and how many."""
-        status, text = self.ask("graph", self.secrets[0], *self.rules)
-        if status:
-            raise NoRegion(text.strip())
-        return {point: capacity for point, capacity, _, _ in Certificate(text).points}
-
-    def learnt(self, chosen):
-        """The regions of some candidates, as all secrets need them, but those in which nothing is written."""
-        enclosures = sorted((one for candidate in chosen for one in candidate.enclosures), key=lambda one: one.enter)
-        declarations = [Declaration(one.bare(number)) for number, one in enumerate(enclosures, 1)]
-        for secret in self.secrets if declarations else []:
-            learnt = self.learner.learnt([one.region for one in declarations], secret)
-            for declaration, region in zip(declarations, learnt):
-                declaration.add(region)
-        written = [pair for pair in zip(enclosures, declarations) if not pair[1].is_empty()]
-        for enclosure, declaration in written:
-            declaration.add_code(*enclosure.may_write(self.calls), enclosure.is_call)
-        return [declaration.whole() for _, declaration in written]
-
     def tried(self, chosen):
         """Candidates together as a trial; None where they cannot be learnt or measured."""
         try:
-            regions = self.learnt(chosen)
+            regions = joined_regions(self.learner, self.calls, chosen, self.secrets)
         except NoRegion:
             return None
         with self.lock:

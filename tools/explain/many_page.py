@@ -55,14 +55,14 @@ def runs_section(many):
     return Section("What crosses in each run", Table(heads, rows, None, "points"))
 
 
-def many_page(many, program, places):
-    """The title and the sections of the page."""
+def many_page(many, program, places, told=()):
+    """The title and the sections of the page; `told` are notes of what else may mislead."""
     inputs, bits = many.inputs, {}
     for point, capacity in many.capacities.items():
         bits[point[1]] = bits.get(point[1], 0) + capacity
     marks = Marks(bits)
     title = f"{bits_text(many.cut.bits)} of {len(many.runs)} secrets in {base(inputs.program)}"
-    notes = of_number(many.cut.bits) + [note for reads in many.reads for note in of_reads(*reads)]
+    notes = of_number(many.cut.bits) + [note for reads in many.reads for note in of_reads(*reads)] + [*told]
     sections = [number_section(many), section_of(notes), cut_section(many, program, places), runs_section(many)]
     key = Words("In red: the cut.", "dim", text="Marked by >: the cut.")
     sections.append(Section("The source", key, *source_blocks(places, marks)))

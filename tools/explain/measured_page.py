@@ -179,12 +179,13 @@ def notes_of(facts, noted, earlier, program):
     return notes + (earlier.notes(program.file) if earlier else [])
 
 
-def measured_page(facts, program, places, earlier=None):
-    """The title and the sections of the page of a measured run, perhaps beside an earlier measurement."""
+def measured_page(facts, program, places, earlier=None, notes=()):
+    """The title and the sections of the page of a measured run, perhaps beside an earlier measurement; `notes` are
+    what else may mislead."""
     inputs = facts.inputs
     title = f"{bits_text(facts.numbers['bits'])} of {base(inputs.secret)} in {base(inputs.program)}"
     noted = noted_of(facts, program)
-    sections = [number_section(facts), section_of(notes_of(facts, noted, earlier, program)), output_section(noted)]
+    sections = [number_section(facts), section_of([*notes_of(facts, noted, earlier, program), *notes]), output_section(noted)]
     sections.append(cut_section(facts, program, places))
     sections.append(against_section(facts, earlier, program, places) if earlier else None)
     reasons = Reasons(facts, noted, program)

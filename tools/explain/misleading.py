@@ -7,6 +7,7 @@ from document import Section, Words
 from guest import shown
 from linting import Lint
 from running import reads_of
+from sampling import trust_of
 from tool import counted
 
 TITLE, MOST_NAMED, HASH = "What may mislead", 4, re.compile(rb"SHA-256 ([0-9a-f]{64})")
@@ -65,6 +66,12 @@ def of_run(run, cut, name):
         return []
     passed = {visit[:3] for turn in run.turns for visit in turn.visits}
     return of_reads(*reads_of(run.guest)[1], name) + of_passed(cut, passed, 1)
+
+
+def of_trust(asked, inputs, program):
+    """What is told of the regions of a run's inputs, by random secrets."""
+    trust = trust_of(asked, inputs, program)
+    return trust.sentences() if trust else []
 
 
 def section_of(notes):

@@ -180,6 +180,18 @@ def read_name(calls, places, name):
     return around_calls(calls, functions)
 
 
+def around_bounds(calls, region):
+    """The region of a file, as it is found in the code: a call, or some places of a function."""
+    program, words = calls.program, f"region {region.number}, {shown(region.enter)} to {shown(region.leave)}"
+    function = program.function_at(region.enter)
+    if region.leave == region.enter + 4:
+        return Enclosure(region.enter, region.leave, {region.enter}, words, region.enter in calls.targets)
+    if not function or not function.holds(region.leave):
+        return Enclosure(region.enter, region.leave, {region.enter}, words, False)
+    inside = CodeGraph(program, function).inside(region.enter, region.leave)
+    return Enclosure(region.enter, region.leave, inside, words, False)
+
+
 def enclosures_of(program, places, names):
     """The regions of all names, by the addresses at which they are entered."""
     calls, by_enter = Calls(program), {}

@@ -54,6 +54,17 @@ def run_by_model(image, public, secret, regions, limit, passed=None):
     return Ran(guest.output, status, reason, turns, *reads_of(guest))
 
 
+def output_by_qemu(program, public, secret, seconds=None):
+    """The bytes and the status of a run by qemu; None where it does not exit, or not within so many seconds. The program
+    must be executable."""
+    words = ["sh", "-c", f'exec {QEMU} "$0" <"$1" 3<"$2" 2>&1', program, public, secret]
+    try:
+        done = subprocess.run(words, stdout=subprocess.PIPE, timeout=seconds, check=False)
+    except subprocess.TimeoutExpired:
+        return None
+    return (done.stdout, done.returncode) if done.returncode >= 0 else None
+
+
 def run_by_qemu(program, public, secret, seconds):
     """The run by qemu. What was read is seen from where the files stand afterwards."""
     if not shutil.which(QEMU):

@@ -1,6 +1,9 @@
 """What the scripts that a user calls have in common: no traceback, whatever the words, the files or the output are."""
+import contextlib
 import os
+import signal
 import sys
+import textwrap
 
 from cuts import read_regions
 from elf_symbols import ProgramFile
@@ -8,8 +11,31 @@ from refusals import program_fault, regions_fault
 from run_facts import read
 
 
+WIDTH = 115
+
+
 class Unusable(Exception):
     """A file that cannot be used; the text says which, why, and what says more."""
+
+
+class OutOfTime(Exception):
+    """The seconds that something may take are over."""
+
+
+@contextlib.contextmanager
+def within(seconds):
+    """Lets work go on for so many seconds, and ends it by OutOfTime. It is for the main thread, and not nested."""
+
+    def ring(*_):
+        raise OutOfTime
+
+    before = signal.signal(signal.SIGALRM, ring)
+    signal.setitimer(signal.ITIMER_REAL, max(seconds, 0.01))
+    try:
+        yield
+    finally:
+        signal.setitimer(signal.ITIMER_REAL, 0)
+        signal.signal(signal.SIGALRM, before)
 
 
 def program_of(name):
@@ -35,6 +61,12 @@ def regions_of(name):
 def counted(number, word):
     """A number with its word: 1 byte, 2 bytes."""
     return f"{number:,} {word}{'' if number == 1 else 's'}"
+
+
+def wrapped(lines):
+    """Lines as a text; sentences are broken where they are long, and what is indented stays as it is."""
+    return "\n".join(line if line.startswith(" ") else
+                     textwrap.fill(line, WIDTH, break_long_words=False, break_on_hyphens=False) for line in lines)
 
 
 class Progress:

@@ -6,6 +6,8 @@ from guest import PUBLIC
 from instructions import ALL, WIDTHS, decode
 
 DECIDED, ARGUMENTS = ("de", "ou", "st"), {"nr": 17, "a0": 10, "a1": 11, "a2": 12}
+# What a value is made of is kept where it has no more bits, and of so many passings.
+FEW_BITS, MOST_KEPT = 12, 64
 # Where the public input may be any, its bytes have more bits than any slot: nothing crosses where they are read.
 ANY_PUBLIC = {(0, 0, "public"): (1 << 64) - 1}
 
@@ -25,10 +27,10 @@ def united(origins):
 
 
 class Passed:
-    """What passed at a point: the value that went on, and the mask that was left."""
+    """What passed at a point: the value that went on, the mask that was left, and the one before bits crossed."""
 
-    def __init__(self, point, value, left):
-        self.point, self.value, self.left = point, value, left
+    def __init__(self, point, value, left, whole):
+        self.point, self.value, self.left, self.whole = point, value, left, whole
 
     def origin(self, before):
         """Its own point, or what it is made of where that has fewer bits."""
@@ -55,8 +57,13 @@ class TracedWalk(Walk):
         if point[2] not in ("ou", "st"):
             self.places += [(point, number, bit) for bit in places_of(self.task.cut.mask_at(point, number) & mask)]
         value, left = super().pass_visit(visit, mask)
-        self.passed.append(Passed(point, value, left))
+        self.passed.append(Passed(point, value, left, mask))
         return value, left
+
+    @staticmethod
+    def origin(passed, before):
+        """The origin of what passed and was made of something."""
+        return passed.origin(before)
 
     def make_turn(self):
         """Makes one turn, and follows it with origins."""
@@ -83,10 +90,10 @@ class TracedWalk(Walk):
             self.registers[number] = self.at_entry[number]
         passed = iter(self.passed)
         for number in region.outs:
-            self.registers[number] = next(passed).origin(self.registers[number] if is_left else {})
+            self.registers[number] = self.origin(next(passed), self.registers[number] if is_left else {})
         for start, (_, _, length) in zip(self.starts, region.ranges):
             for address in range(start, start + length):
-                self.bytes[address] = next(passed).origin(self.bytes.get(address, {}) if is_left else {})
+                self.bytes[address] = self.origin(next(passed), self.bytes.get(address, {}) if is_left else {})
 
     def at(self, slot):
         """What passed at a slot in this turn."""
@@ -100,17 +107,21 @@ class TracedWalk(Walk):
             addresses = range(first, first + WIDTHS[instruction.name])
         if form == "store":
             for address in addresses:
-                self.bytes[address] = self.registers[instruction.second] if self.masks.byte(address) else {}
+                self.bytes[address] = self.stored(address, self.registers[instruction.second])
         elif form == "call":
             self.follow_call()
         elif form == "load":
             before = united(self.bytes.get(address, {}) for address in addresses)
-            self.set_register(target, self.at("rs").origin(before))
+            self.set_register(target, self.origin(self.at("rs"), before))
         elif form in ("immediate", "register"):
             used = [instruction.first] + [instruction.second] * (form == "register")
-            self.set_register(target, self.at("rs").origin(united(self.registers[number] for number in used)))
+            self.set_register(target, self.origin(self.at("rs"), united(self.registers[number] for number in used)))
         elif form not in ("branch", "fence", "breakpoint"):
             self.set_register(target, {})
+
+    def stored(self, address, origin):
+        """The origin of a byte that was stored."""
+        return origin if self.masks.byte(address) else {}
 
     def set_register(self, number, origin):
         """Keeps the origin of a register."""
@@ -120,33 +131,69 @@ class TracedWalk(Walk):
         """The origins of the bytes that a call has read; its answer is public."""
         read = [passed for passed in self.passed if passed.point[2] == "in"]
         for index, passed in enumerate(read):
-            self.bytes[self.at("a1").value + index] = passed.origin({})
+            self.bytes[self.at("a1").value + index] = self.origin(passed, {})
         for index in range(self.guest.consumed[PUBLIC] - self.consumed[PUBLIC]):
             self.bytes[self.at("a1").value + index] = ANY_PUBLIC if self.task.is_any_public else {}
         self.set_register(10, {})
 
-    def missing(self):
+    def missing(self, few=0):
         """The points, with masks, at which what was unclear would have to cross; none for another reason, and none for
-        public bytes that are taken as they are."""
-        return {point: mask for point, mask in self.wanted().items() if point not in ANY_PUBLIC}
+        public bytes that are taken as they are. A decision whose operands are made of a few bits, at most so many,
+        crosses where they are made."""
+        return {point: mask for point, mask in self.wanted(few).items() if point not in ANY_PUBLIC}
 
-    def wanted(self):
+    def wanted(self, few):
         """The origin of what was unclear."""
         words = (self.unclear or "").split()
         if words[:1] == ["left"]:
-            return self.missing_at((int(words[1]), int(words[2], 16), words[3]), int(words[5], 16))
+            return self.missing_at((int(words[1]), int(words[2], 16), words[3]), int(words[5], 16), few)
         if words[:1] == ["secret-code"]:
             return united(self.bytes.get(int(words[1], 16) + index, {}) for index in range(4))
         return self.registers[int(words[3][1:])] if words[2:3] == ["base"] else {}
 
-    def missing_at(self, point, mask):
+    def missing_at(self, point, mask, few):
         """Those of a slot: itself, or of an address or an argument what it is made of where that has fewer bits."""
         own, slot = {point: mask}, point[2]
+        if slot == "de" and few:
+            instruction = decode(self.guest.word(self.begin, 4))
+            before = united(self.registers[number] for number in (instruction.first, instruction.second))
+            return before if before and bits_of(before) <= few else own
         if slot in DECIDED:
             return own
         number = ARGUMENTS[slot] if slot in ARGUMENTS else decode(self.guest.word(self.begin, 4)).first
         before = self.registers[number]
         return before if before and bits_of(before) < bits_of(own) else own
+
+
+class MakingWalk(TracedWalk):
+    """A walk that keeps of which values of a few bits every value is made, also behind what crossed: an origin has
+    passings, each a point with the number of its visit, and their masks. `uses` has for each choice, a point with its visit, what it was made of."""
+
+    def __init__(self, task, path):
+        super().__init__(task, path)
+        self.uses = {}
+
+    def pass_visit(self, visit, mask):
+        """Passes a visit, and notes of what a choice there is made."""
+        before = len(self.places)
+        kept = super().pass_visit(visit, mask)
+        if len(self.places) > before and self.kind == "step":
+            instruction = decode(self.guest.word(self.begin, 4))
+            used = [self.registers[number] for number in (instruction.first, instruction.second) if number]
+            self.uses[visit[:3], self.counts[visit[:3]]] = united(used)
+        return kept
+
+    def origin(self, passed, before):
+        """What is made of something is made of that, and is a passing itself."""
+        mask = passed.whole & slot_width(passed.point[2])
+        if not 0 < mask.bit_count() <= FEW_BITS:
+            return before
+        kept = dict(list(before.items())[-MOST_KEPT:])
+        return kept | {(passed.point, self.counts[passed.point]): mask}
+
+    def stored(self, address, origin):
+        """A byte is what was stored, also where it has crossed."""
+        return origin
 
 
 def traced(task, text):

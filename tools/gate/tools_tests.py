@@ -62,7 +62,7 @@ class ToolsTests(Expectations):
         names = [os.path.relpath(name, folder) for name in PIN]
         _, text, _ = self.call("explain.py", *names, "--text", folder=folder)
         lines = [line.strip() for line in text.split("\n") if re.match(r"    (\S*flowcheck|python3) ", line)]
-        self.expect("folders: commands", len(lines) == 4, text)
+        self.expect("folders: commands", len(lines) == 5, text)
         for line in lines:
             line = line.replace("OTHER", shlex.quote(names[2]))
             done = subprocess.run(["sh", "-c", line], cwd=folder, capture_output=True, text=True, check=False)

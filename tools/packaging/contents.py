@@ -21,7 +21,7 @@ CODE = (
     "crates/flowcheck/src/main.rt", "crates/flow_base/src/host.rt", "crates/machine_rows/data/pin-gcc.elf",
 )
 # What stands in .gitignore: what stories make.
-MADE = ("__pycache__", "secrets", "*.elf", "*.cut", "*.report", "*.html", "*.new", "*.regions")
+MADE = ("__pycache__", "secrets", "*.elf", "*.bound", "*.cut", "*.report", "*.html", "*.new", "*.regions")
 
 
 def files_below(folder):

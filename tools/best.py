@@ -1,0 +1,80 @@
+"""Looks for the least bound of all outputs that secrets of one length can give, within some seconds.
+
+Call: best.py PROG PUBLIC LENGTH|SECRET... [--seconds N] [--any-public] [--regions FILE] [--turns N] [--output NAME]
+              [--flowcheck COMMAND]
+
+It tries one way after another, first with few walks and then with more: no region, by each table of mask rules; cuts
+upstream of decisions, where the values are made by which is decided; and regions around calls and loops, which are
+learnt of random secrets until none of 200 breaks one, and judged by the outputs that `bound` counts. The best is kept.
+Beside that the guest is run on 1,000 random secrets, or on all where there are fewer, by qemu where it is there, else by
+the model: how many different outputs these have is a number below which no bound can be. Where both are the same it
+ends, else when every way was tried, when the seconds are over, or at Ctrl-C; what was found until then is printed.
+
+  --seconds N          the seconds in all; 60 without it
+  --any-public         of any public input of the length of PUBLIC, not of PUBLIC alone
+  --regions FILE       a region file; then no other regions are tried
+  --turns N            as of `bound`
+  --output NAME        writes what is printed into NAME, the cut into NAME.cut and regions that were found into
+                       NAME.regions; `best.bound` without it
+  --flowcheck COMMAND  the program; without it FLOWCHECK, else the one built or installed with this, else the model
+
+Prints a line for each way that was tried, then in words what is bounded, and the words that ask again. The status is 0
+where it is bounded, 1 where it is not."""
+import os
+import sys
+
+HERE = os.path.dirname(os.path.abspath(__file__))
+sys.path[:0] = [os.path.join(HERE, "explain"), os.path.join(HERE, "model")]
+
+from answering import Program
+from best import BestBound
+from best_words import best_lines, kept_files
+from run_facts import Inputs, read
+from run_words import length_of, parser_of
+from tool import finish, program_of, told, wrapped
+
+NOTHING = "Nothing was found within the time: --seconds gives more"
+
+
+def arguments():
+    """The words of the command line."""
+    parser = parser_of(__doc__)
+    parser.add_argument("public", metavar="PUBLIC")
+    parser.add_argument("secrets", metavar="SECRET", nargs="+")
+    parser.add_argument("--seconds", type=float, default=60)
+    parser.add_argument("--any-public", action="store_true")
+    parser.add_argument("--regions")
+    parser.add_argument("--turns")
+    parser.add_argument("--output", default="best.bound")
+    return parser.parse_intermixed_args()
+
+
+def best_of(words, tell):
+    """The search, when it has ended."""
+    options = [word for name in ("regions", "turns") if getattr(words, name)
+               for word in (f"--{name}", getattr(words, name))]
+    program, inputs = program_of(words.program), Inputs(words.program, words.public, None, options)
+    length = length_of(words.secrets)
+    secrets = words.secrets if length is None else []
+    length = len(read(secrets[0])) if secrets else length
+    named = Program(words.flowcheck), inputs, program, secrets, length, words.any_public
+    search = BestBound(*named, words.seconds, tell)
+    search.search()
+    return search
+
+
+def main():
+    """Searches, writes the files, and says what was found."""
+    words = arguments()
+    with open(words.output, "w", encoding="utf-8") as out:
+        search = best_of(words, lambda text: print(text, flush=True))
+        if search.best is None:
+            return told(NOTHING, 1)
+        text = wrapped(best_lines(search, kept_files(search, words.output)))
+        print(f"It ended as {search.why}.\n{text}")
+        out.write(text.lstrip("\n") + "\n")
+    return 0 if search.best.answer.is_bounded else 1
+
+
+if __name__ == "__main__":
+    finish(main)
