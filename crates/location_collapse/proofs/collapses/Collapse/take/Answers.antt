@@ -97,8 +97,11 @@ pub returns-else-follows_flow-clause-memory : goal.returns-else-follows_flow-cla
 returns-else-follows_flow-clause-memory c =
     rw c.in-Link.is
     (λ e. record {
-      new = subst (λ map. is_among (keys_of map.entries) (record { source = At c.in-Link.source; target = At
-          c.in-Link.target }) ≡ false) c.follows_flow.ensures.map (c.put.ensures.memory e).new;
+      new = subst (λ map. is_among (keys_of map.entries) (record {
+        source = At c.in-Link.source;
+        target = At
+            c.in-Link.target;
+      }) ≡ false) c.follows_flow.ensures.map (c.put.ensures.memory e).new;
       ends = (c.put.ensures.memory e).ends;
     })
 
