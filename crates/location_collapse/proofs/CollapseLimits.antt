@@ -131,7 +131,7 @@ pub exceeds_points : (capacities : List (Point × ℕ)) (links : List NamedLink)
     ℕ) → Keeps capacities links events → LacksRoom capacities p mask → HasMorePoints (events ++ Pass p mask ∷ []) 65536
 exceeds_points capacities links events p mask keeps lacks =
     let absent : list_any (is_same p) (keys_of capacities) ≡ false =
-    sym (is_some-lookup (is_same p) capacities) ∙ lacks.unknown in
+    sym (is_some-lookup (is_same p) capacities) ∙ lacks.wants.unknown in
     let own : list_all (λ q. list_any (is_same q) (keys_of capacities)) (keys_of capacities) ≡ true =
     all_own is_same points_alike.refl (keys_of capacities) in
     let count : length (keys_of capacities) ≡ length capacities = length-map capacities (λ e. e.0) in
@@ -145,7 +145,7 @@ exceeds_points capacities links events p mask keeps lacks =
           (all_more (λ q. list_any (is_same q) (keys_of capacities)) (has_passed (events ++ Pass p mask ∷ []))
           (λ q any. still_passed events (Pass p mask) q (sym (known_same capacities links events keeps q) ∙
           (is_some-lookup (is_same q) capacities ∙ any))) (keys_of capacities) own)
-          (and_from (has_passed (events ++ Pass p mask ∷ []) p) true (now_passed events p mask lacks.some) refl);
+          (and_from (has_passed (events ++ Pass p mask ∷ []) p) true (now_passed events p mask lacks.wants.some) refl);
       more = let full : 65536 ≤ length capacities = lacks.full.full in omega (arith, full, count, both);
     }
 

@@ -2,4 +2,5 @@ pub mod Limits
 pub mod Collapses
 pub mod LimitLaws
 pub mod LatestLinks
+pub mod Wants
 pub mod Private

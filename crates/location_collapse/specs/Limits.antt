@@ -46,10 +46,14 @@ pub record HasAllPoints (capacities : List (Point × ℕ)) : Type 0 where
   pub differ : IsDistinct is_same (keys_of capacities)
   pub full : 65536 ≤ length capacities
 
--- a mask other than 0 passes a point that is not kept, where as many are kept as a graph may have
-pub record LacksRoom (capacities : List (Point × ℕ)) (point : Point) (mask : ℕ) : Type 0 where
+-- a mask other than 0 passes a point that is not kept
+pub record WantsPoint (capacities : List (Point × ℕ)) (point : Point) (mask : ℕ) : Type 0 where
   pub some : 0 < bit_count mask
   pub unknown : is_known capacities point ≡ false
+
+-- and as many are kept as a graph may have
+pub record LacksRoom (capacities : List (Point × ℕ)) (point : Point) (mask : ℕ) : Type 0 where
+  pub wants : WantsPoint capacities point mask
   pub full : HasAllPoints capacities
 
 -- as many different links are kept as a graph may have

@@ -5,9 +5,10 @@ ghost use Rattle.flow_graph.specs.declared.events.Event.{Event as AnEvent};
 ghost use Rattle.flow_graph.specs.declared.events.Event.TheVariants.{Pass as PassEvent};
 ghost use Rattle.flow_graph.specs.Again.{again_events};
 ghost use Rattle.flow_graph.specs.Keeping.{is_there, may_lead};
-ghost use Rattle.location_collapse.specs.Limits.{ExceedsLimit};
+ghost use Rattle.location_collapse.specs.Limits.{ExceedsLimit, WantsPoint};
 ghost use Rattle.location_collapse.specs.Collapses.{HasAgainLinks, KeepsAll, MakesLink, StandsFor};
 ghost use Rattle.location_collapse.specs.Collapses.{has_ends, is_limit, knows};
+ghost use Rattle.location_collapse.specs.Wants.{WantsLink, WantsMore};
 
 use crate::collapses::Collapse;
 use crate::faults::CollapseFault;
@@ -55,6 +56,7 @@ impl Collapse {
         ensures err { OnErr result (KeepsAll self.old self.new) }
         ensures limit { result ≡ Err CollapseFault.Limit → (events : Seq AnEvent) → StandsFor self.old events →
             ExceedsLimit (events ++ PassEvent point mask ∷ []) }
+        ensures memory { result ≡ Err CollapseFault.Memory → WantsPoint self.old.points.capacities.map.entries point mask }
         ensures full { self.new.is_full ≡ self.old.is_full }
         ensures links { self.new.links ≡ self.old.links }
     {
@@ -70,6 +72,7 @@ impl Collapse {
         ensures err { OnErr result (KeepsAll self.old self.new) }
         ensures limit { result ≡ Err CollapseFault.Limit → (event : AnEvent) (events : Seq AnEvent) → MakesLink
             (knows self.old) event link → StandsFor self.old events → ExceedsLimit (events ++ event ∷ []) }
+        ensures memory { result ≡ Err CollapseFault.Memory → WantsLink self.old link }
         ensures full { self.new.is_full ≡ self.old.is_full }
     {
         if let Some(index) = self.links.find(&link) {
@@ -90,6 +93,7 @@ impl Collapse {
         ensures err { OnErr result (KeepsAll self.old self.new) }
         ensures limit { result ≡ Err CollapseFault.Limit → (events : Seq AnEvent) → StandsFor self.old events →
             ExceedsLimit (events ++ event ∷ []) }
+        ensures memory { result ≡ Err CollapseFault.Memory → WantsMore self.old event }
         ensures full { self.new.is_full ≡ self.old.is_full }
     {
         match event {
@@ -130,7 +134,8 @@ impl Collapse {
     }
 
     /// Takes an event. `Limit` comes exactly where the graph of the events taken with this one exceeds a limit, or an
-    /// earlier `add` answered it. An event that is not taken leaves no trace but that.
+    /// earlier `add` answered it. `Memory` comes only where the event makes a point or a link that is not there yet. An
+    /// event that is not taken leaves no trace but that a limit is exceeded.
     #[inline(always)]
     pub fn add(&mut self, event: Event) -> Result<(), CollapseFault>
         ensures ok { OnOk result ((events : Seq AnEvent) → StandsFor self.old events → StandsFor self.new
@@ -141,6 +146,7 @@ impl Collapse {
         ensures limit { result ≡ Err CollapseFault.Limit → self.old.is_full ≡ true ⊎ ((events : Seq AnEvent) →
             StandsFor self.old events → ExceedsLimit (events ++ event ∷ [])) }
         ensures again { self.old.is_full ≡ true → result ≡ Err CollapseFault.Limit }
+        ensures memory { result ≡ Err CollapseFault.Memory → WantsMore self.old event }
         ensures full { self.new.is_full ≡ (self.old.is_full || is_limit result) }
     {
         if self.is_full {

@@ -1,4 +1,4 @@
-ghost use Rattle.std.specs.Prelude.{◌≡◌, ◌⊎◌, ◌+◌, ◌≤◌, ◌<◌, ◌^◌, [], cond, length, true, IsTrue, None, Some, OnOk, OnErr, Err};
+ghost use Rattle.std.specs.Prelude.{◌≡◌, ◌≢◌, ◌⊎◌, ◌+◌, ◌≤◌, ◌<◌, ◌^◌, [], cond, length, true, IsTrue, None, Some, OnOk, OnErr, Err};
 ghost use Rattle.std.specs.List.{list_all};
 ghost use Rattle.indexmap.specs.IndexMap.{set_value_at};
 ghost use Rattle.flow_base.specs.declared.points.Point.{Point as ThePoint};
@@ -6,7 +6,7 @@ ghost use Rattle.flow_base.specs.Words.{bit_count};
 ghost use Rattle.flow_base.specs.PointOrders.{is_same};
 ghost use Rattle.flow_graph.specs.Keeping.{capacity_in, count_in, is_known};
 ghost use Rattle.hinted_map.specs.Places.{StandsAt};
-ghost use Rattle.location_collapse.specs.Limits.{HasAllPoints, LacksRoom, is_kept_capacity};
+ghost use Rattle.location_collapse.specs.Limits.{HasAllPoints, LacksRoom, WantsPoint, is_kept_capacity};
 
 use crate::faults::CollapseFault;
 use flow_base::{NoMemory, Point};
@@ -75,6 +75,7 @@ impl KeptPoints {
             capacity) }
         ensures err { OnErr result (self.new.capacities.map.entries ≡ self.old.capacities.map.entries) }
         ensures large { result ≡ Err CollapseFault.Limit → 2 ^ 48 ≤ capacity }
+        ensures memory { result ≢ Err CollapseFault.Memory }
         ensures latest { (self.new.capacities.latest ≡ self.old.capacities.latest) ⊎
             (self.new.capacities.latest ≡ index) }
     {
@@ -86,7 +87,7 @@ impl KeptPoints {
         Ok(())
     }
 
-    /// Adds the bits of a mask to a point's capacity.
+    /// Adds the bits of a mask to a point's capacity. `Memory` comes only where the point is new.
     #[inline(always)]
     pub fn pass(&mut self, point: Point, mask: u32) -> Result<(), CollapseFault>
         ensures counted { OnOk result ((q : ThePoint) → count_in self.new.capacities.map.entries q ≡ count_in
@@ -96,6 +97,7 @@ impl KeptPoints {
         ensures err { OnErr result (self.new.capacities.map.entries ≡ self.old.capacities.map.entries) }
         ensures limit { result ≡ Err CollapseFault.Limit → LacksRoom self.old.capacities.map.entries point mask ⊎
             (2 ^ 48 ≤ count_in self.old.capacities.map.entries point + bit_count mask) }
+        ensures memory { result ≡ Err CollapseFault.Memory → WantsPoint self.old.capacities.map.entries point mask }
         ensures latest { (self.new.capacities.latest ≡ self.old.capacities.latest) ⊎
             StandsAt is_same self.old.capacities.map.entries point self.new.capacities.latest }
     {

@@ -1,6 +1,6 @@
 -- What is counted of points.
 use Rattle.std.specs.Prelude.{◌≡◌, ℕ, ◌+◌, ◌*◌, ◌/◌, ◌%◌, ◌==◌, ◌&&◌, Bool, not, cond, List, [], Option}
-use Rattle.std.specs.Prelude.{Some, None, nat_lt, slice_index_or}
+use Rattle.std.specs.Prelude.{Some, None, nat_lt, slice_index_or, true}
 use Rattle.std.specs.Map.{lookup}
 use Rattle.flow_base.specs.declared.points.Point.{Point}
 use Rattle.flow_base.specs.PointOrders.{is_same}
@@ -42,3 +42,8 @@ CountsMore old new point more = (q : Point) → count_of new q ≡ count_of old 
 -- what is counted of a point is forgotten
 abbrev pub Clears : VisitCounts → VisitCounts → Point → Type 0
 Clears old new point = (q : Point) → count_of new q ≡ cond (is_same point q) 0 (count_of old q)
+
+-- a point is counted, and the row of its page is not there: only then is memory wanted
+pub record WantsRow (counts : VisitCounts) (point : Point) : Type 0 where
+  pub counted : is_counted point ≡ true
+  pub new : lookup (is_same (page_of point)) counts.rows.map.entries ≡ None

@@ -1,9 +1,9 @@
-ghost use Rattle.std.specs.Prelude.{◌≡◌, ◌+◌, ◌<◌, ◌==◌, ◌&&◌, cond, length, nat_lt, None, ℕ, true, IfOk, OnOk, IfSome, IfNone};
+ghost use Rattle.std.specs.Prelude.{◌≡◌, ◌+◌, ◌<◌, ◌==◌, ◌&&◌, cond, length, nat_lt, None, ℕ, true, IfOk, OnErr, OnOk, IfSome, IfNone};
 ghost use Rattle.std.specs.Map.{lookup};
 ghost use Rattle.flow_base.specs.declared.points.Point.{Point as ThePoint};
 ghost use Rattle.flow_base.specs.PointOrders.{is_same};
 ghost use Rattle.hinted_map.specs.Places.{StandsAt};
-ghost use Rattle.measuring.specs.Counts.{Clears, CountsMore, count_at, count_of, has_room};
+ghost use Rattle.measuring.specs.Counts.{Clears, CountsMore, WantsRow, count_at, count_of, has_room};
 ghost use Rattle.measuring.specs.Counts.{is_counted as counts_there, page_of as the_page_of};
 
 use crate::counter_places::{column_of, is_counted, lane_of, page_of};
@@ -64,6 +64,7 @@ impl VisitCounts {
         ensures at { IfOk result (StandsAt is_same self.new.rows.map.entries page) }
         ensures counts { OnOk result ((q : ThePoint) (column : ℕ) →
             count_at self.new.rows.map.entries q column ≡ count_at self.old.rows.map.entries q column) }
+        ensures memory { OnErr result (lookup (is_same page) self.old.rows.map.entries ≡ None) }
     {
         let hint = self.latest[lane_of(page.slot)];
         if self.rows.stands_at(hint, &page) {
@@ -78,6 +79,7 @@ impl VisitCounts {
         ensures at { IfOk result (StandsAt is_same self.new.rows.map.entries page) }
         ensures counts { OnOk result ((q : ThePoint) (column : ℕ) →
             count_at self.new.rows.map.entries q column ≡ count_at self.old.rows.map.entries q column) }
+        ensures memory { OnErr result (lookup (is_same page) self.old.rows.map.entries ≡ None) }
     {
         match self.find(&page) {
             Some(index) => {
@@ -121,11 +123,13 @@ impl VisitCounts {
     }
 
     /// One visit more of a point. False exactly where it is not counted: it is an output of a region, its address is no
-    /// multiple of 4, or its counter is at its end, 2^32 - 1. Its error is lack of memory.
+    /// multiple of 4, or its counter is at its end, 2^32 - 1. Its error is lack of memory, and comes only where a row is
+    /// made.
     #[inline(always)]
     pub fn more(&mut self, point: &Point) -> Result<bool, NoMemory>
         ensures more { IfOk result (λ done. CountsMore self.old self.new point.now (cond done 1 0)) }
         ensures told { IfOk result (λ done. done ≡ has_room self.old point.now) }
+        ensures memory { OnErr result (WantsRow self.old point.now) }
     {
         if !is_counted(point) {
             return Ok(false);
@@ -149,11 +153,13 @@ impl VisitCounts {
     }
 
     /// The counter of a point becomes 0. It gives how often the point was counted. The row of its page is made where
-    /// there is none: it is found at once when the point is visited again. Its error is lack of memory.
+    /// there is none: it is found at once when the point is visited again. Its error is lack of memory, and comes only
+    /// then.
     #[inline(always)]
     pub fn clear(&mut self, point: &Point) -> Result<u32, NoMemory>
         ensures counted { IfOk result (λ count. count ≡ count_of self.old point.now) }
         ensures cleared { OnOk result (Clears self.old self.new point.now) }
+        ensures memory { OnErr result (WantsRow self.old point.now) }
     {
         if !is_counted(point) {
             return Ok(0);

@@ -1,2 +1,3 @@
 pub mod SecretBytes
+pub mod CodeLengths
 pub mod Codes

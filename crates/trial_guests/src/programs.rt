@@ -172,7 +172,9 @@ fn put_maskings(code: &mut Vec<u8>, number: u32, count: u32) -> Result<(), NoMem
 
 /// The code of the program of a number.
 fn code(alloc: Global, number: u32) -> Result<Bytes, NoMemory>
-    ensures { IfOk result (λ code. code ≡ code_of (program_of number)) }
+    ensures code { IfOk result (λ code. code ≡ code_of (program_of number)) }
+    ensures some { IfOk result (λ code. 0 < length code) }
+    ensures few { IfOk result (λ code. length code ≤ 1048576) }
 {
     let mut code = Vec::new(alloc);
     put_opening(&mut code)?;
@@ -181,15 +183,11 @@ fn code(alloc: Global, number: u32) -> Result<Bytes, NoMemory>
     Ok(Bytes::from_vec(code))
 }
 
-/// The program of a number: one segment at 0x00010000, which is its base and its entry. Its error is lack of memory; it
-/// is answered too where the code is empty or has more than 1 MiB, which of no number is so.
+/// The program of a number: one segment at 0x00010000, which is its base and its entry. Its error is lack of memory.
 pub fn image(alloc: Global, number: u32) -> Result<Image, NoMemory>
     ensures { IfOk result (λ image. image_picture image ≡ one_segment (code_of (program_of number))) }
 {
     let bytes = code(alloc, number)?;
-    if bytes.len() == 0 || bytes.len() > 1_048_576 {
-        return Err(NoMemory);
-    }
     let mut segments = List::new(alloc);
     segments.push(Segment {
         address: START,

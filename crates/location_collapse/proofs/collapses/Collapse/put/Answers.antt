@@ -32,3 +32,9 @@ returns-clause-limit c = λ e event events makes stands.
     inr (inl (exceeds_links c.args.self.now.points.capacities.map.entries (keys_of c.args.self.now.links.named.map.entries) events event
     c.args.link stands (made_alone _ event c.args.link makes (sym c.has_ends.ensures ∙ c.if-not-has_ends.false))
     (sym c.find.ensures.some ∙ ap is_some c.in_default.is) (c.put.ensures.full e)))
+
+pub returns-clause-memory : goal.returns-clause-memory
+returns-clause-memory c = λ e. record {
+  new = sym c.find.ensures.some ∙ ap is_some c.in_default.is;
+  ends = sym c.has_ends.ensures ∙ c.if-not-has_ends.false;
+}

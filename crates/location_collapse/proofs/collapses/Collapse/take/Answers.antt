@@ -1,9 +1,12 @@
-use Rattle.std.proofs.Common.{sym, subst}
+use Rattle.std.proofs.Common.{◌≡◌, false, sym, subst}
 use Rattle.std.proofs.lemmas.Result.{on_ok_weaker}
 use Rattle.std.proofs.lemmas.Bool.{ne_eqb, OnTrue_at}
 use Rattle.std.specs.Map.{keys_of}
+use Rattle.flow_graph.specs.EventGraphs.{is_among}
 use Rattle.flow_graph.specs.Keeping.{Keeps}
+use Rattle.flow_graph.specs.declared.named_links.NamedEnd.TheVariants.{At}
 use Rattle.location_collapse.specs.Collapses.{knows}
+use Rattle.location_collapse.specs.Wants.{WantsLink}
 use Rattle.location_collapse.proofs.EventSteps.{makes_link, makes_secret, makes_implicit, makes_output, no_output}
 use Rattle.location_collapse.proofs.EventSteps.{known_link}
 use Rattle.location_collapse.proofs.collapses.Collapse.take.Goals as goal
@@ -86,3 +89,30 @@ returns-else-is_latest_output-clause-limit c =
     rw c.in-Out.is
     (λ full events. c.put-in-Out.ensures.limit full _ events (makes_output (knows c.args.self.now) c.in-Out.region
     c.in-Out.point (ne_eqb c.in-Out.region 0 c.if-region-eq0.false)))
+
+pub returns-in-Pass-clause-memory : goal.returns-in-Pass-clause-memory
+returns-in-Pass-clause-memory c = rw c.in-Pass.is c.pass.ensures.memory
+
+pub returns-else-follows_flow-clause-memory : goal.returns-else-follows_flow-clause-memory
+returns-else-follows_flow-clause-memory c =
+    rw c.in-Link.is
+    (λ e. record {
+      new = subst (λ map. is_among (keys_of map.entries) (record {
+        source = At c.in-Link.source;
+        target = At
+            c.in-Link.target;
+      }) ≡ false) c.follows_flow.ensures.map (c.put.ensures.memory e).new;
+      ends = (c.put.ensures.memory e).ends;
+    })
+
+pub returns-in-FromSecret-clause-memory : goal.returns-in-FromSecret-clause-memory
+returns-in-FromSecret-clause-memory c = rw c.in-FromSecret.is c.put-in-FromSecret.ensures.memory
+
+pub returns-in-Implicit-clause-memory : goal.returns-in-Implicit-clause-memory
+returns-in-Implicit-clause-memory c =
+    rw c.in-Implicit.is
+    (λ e. subst (λ out. WantsLink c.args.self.now (record { source = At c.in-Implicit.point; target = out }))
+    c.outlet.ensures (c.put-in-Implicit.ensures.memory e))
+
+pub returns-else-is_latest_output-clause-memory : goal.returns-else-is_latest_output-clause-memory
+returns-else-is_latest_output-clause-memory c = rw c.in-Out.is c.put-in-Out.ensures.memory

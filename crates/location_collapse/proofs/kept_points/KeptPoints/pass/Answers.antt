@@ -107,10 +107,18 @@ returns-in-None-clause-limit c = λ e.
     let some : 0 < count_ones c.args.mask = ones_some c.args.mask (omega arith) in
     let bits : bit_count c.args.mask ≡ count_ones c.args.mask = bit_count_ones c.args.mask (omega arith) in
     inl (record {
-      some = omega (arith, some, bits);
-      unknown = ap is_some c.in-None.ensures.none;
+      wants = record { some = omega (arith, some, bits); unknown = ap is_some c.in-None.ensures.none };
       full = c.start.ensures.full e;
     })
+
+pub returns-in-Some-clause-memory : goal.returns-in-Some-clause-memory
+returns-in-Some-clause-memory c = λ e. absurd (c.raise.ensures.memory e)
+
+pub returns-in-None-clause-memory : goal.returns-in-None-clause-memory
+returns-in-None-clause-memory c = λ e.
+    let some : 0 < count_ones c.args.mask = ones_some c.args.mask (omega arith) in
+    let bits : bit_count c.args.mask ≡ count_ones c.args.mask = bit_count_ones c.args.mask (omega arith) in
+    record { some = omega (arith, some, bits); unknown = ap is_some c.in-None.ensures.none }
 
 pub returns-in-Some-clause-latest : goal.returns-in-Some-clause-latest
 returns-in-Some-clause-latest c =
