@@ -1,7 +1,7 @@
 """Looks for the least bound of all outputs that secrets of one length can give, within some seconds.
 
-Call: best.py PROG PUBLIC LENGTH|SECRET... [--seconds N] [--any-public] [--regions FILE] [--turns N] [--output NAME]
-              [--flowcheck COMMAND]
+Call: best.py PROG PUBLIC LENGTH|SECRET... [--seconds N] [--any-public] [--regions FILE] [--turns N] [--rules N]
+              [--output NAME] [--flowcheck COMMAND]
 
 It tries one way after another, first with few walks and then with more: no region, by each table of mask rules; cuts
 upstream of decisions, where the values are made by which is decided; and regions around calls and loops, which are
@@ -13,6 +13,7 @@ ends, else when every way was tried, when the seconds are over, or at Ctrl-C; wh
   --seconds N          the seconds in all; 60 without it
   --any-public         of any public input of the length of PUBLIC, not of PUBLIC alone
   --regions FILE       a region file; then no other regions are tried
+  --rules N            this table of mask rules alone
   --turns N            as of `bound`
   --output NAME        writes what is printed into NAME, the cut into NAME.cut and regions that were found into
                        NAME.regions; `best.bound` without it
@@ -28,10 +29,10 @@ sys.path[:0] = [os.path.join(HERE, "explain"), os.path.join(HERE, "model")]
 
 from answering import Program
 from best import BestBound
-from best_words import best_lines, kept_files
+from best_words import best_lines, keep_files
 from run_facts import Inputs, read
-from run_words import length_of, parser_of
-from tool import finish, program_of, told, wrapped
+from run_words import add_options, length_of, number, option_words, parser_of, look_at_secrets
+from tool import finish, look_at_place, program_of, told, wrapped, write_text
 
 NOTHING = "Nothing was found within the time: --seconds gives more"
 
@@ -41,18 +42,16 @@ def arguments():
     parser = parser_of(__doc__)
     parser.add_argument("public", metavar="PUBLIC")
     parser.add_argument("secrets", metavar="SECRET", nargs="+")
-    parser.add_argument("--seconds", type=float, default=60)
+    parser.add_argument("--seconds", type=number(1, kind=float), default=60, metavar="N")
     parser.add_argument("--any-public", action="store_true")
-    parser.add_argument("--regions")
-    parser.add_argument("--turns")
+    add_options(parser, "regions", "turns", "rules")
     parser.add_argument("--output", default="best.bound")
     return parser.parse_intermixed_args()
 
 
 def best_of(words, tell):
     """The search, when it has ended."""
-    options = [word for name in ("regions", "turns") if getattr(words, name)
-               for word in (f"--{name}", getattr(words, name))]
+    options = option_words(words, "regions", "turns", "rules")
     program, inputs = program_of(words.program), Inputs(words.program, words.public, None, options)
     length = length_of(words.secrets)
     secrets = words.secrets if length is None else []
@@ -66,13 +65,15 @@ def best_of(words, tell):
 def main():
     """Searches, writes the files, and says what was found."""
     words = arguments()
-    with open(words.output, "w", encoding="utf-8") as out:
-        search = best_of(words, lambda text: print(text, flush=True))
-        if search.best is None:
-            return told(NOTHING, 1)
-        text = wrapped(best_lines(search, kept_files(search, words.output)))
-        print(f"It ended as {search.why}.\n{text}")
-        out.write(text.lstrip("\n") + "\n")
+    look_at_place(words.output)
+    look_at_secrets(words.secrets)
+    search = best_of(words, lambda text: print(text, flush=True))
+    if search.best is None:
+        return told(NOTHING, 1)
+    text = wrapped(best_lines(search, words.output))
+    print(f"It ended as {search.why}.\n{text}")
+    keep_files(search, words.output)
+    write_text(words.output, text.lstrip("\n") + "\n")
     return 0 if search.best.answer.is_bounded else 1
 
 

@@ -33,10 +33,10 @@ from bound_words import bounded_lines, unclear_lines
 from bounding import SEARCH_RULES, Bounding, NoBound, found
 from parting import Parting
 from run_facts import Inputs
-from run_words import length_of, parser_of
+from run_words import add_options, length_of, number, option_words, parser_of, look_at_secrets
 from sampling import trust_of
 from source_lines import Places
-from tool import finish, program_of, told, wrapped
+from tool import finish, look_at_place, program_of, told, wrapped, write_text
 
 OPTIONS = ("regions", "turns", "rules", "paths")
 
@@ -46,10 +46,10 @@ def arguments():
     parser = parser_of(__doc__)
     parser.add_argument("public", metavar="PUBLIC")
     parser.add_argument("secrets", metavar="SECRET", nargs="+")
-    for name in OPTIONS:
-        parser.add_argument(f"--{name}", default=SEARCH_RULES if name == "rules" else None)
+    add_options(parser, *OPTIONS)
+    parser.set_defaults(rules=int(SEARCH_RULES))
     parser.add_argument("--any-public", action="store_true")
-    parser.add_argument("--rounds", type=int, default=100)
+    parser.add_argument("--rounds", type=number(1), default=100)
     parser.add_argument("--output", default="bound.cut")
     return parser.parse_intermixed_args()
 
@@ -79,22 +79,23 @@ def trust_lines(words, bounding, answer):
 def main():
     """Searches, writes the cut, and says what was found."""
     words = arguments()
-    options = [word for name in OPTIONS if getattr(words, name) for word in (f"--{name}", getattr(words, name))]
+    options = option_words(words, *OPTIONS)
+    look_at_place(words.output)
+    look_at_secrets(words.secrets)
     try:
         program, inputs = program_of(words.program), Inputs(words.program, words.public, None, options)
         bounding = Bounding(Program(words.flowcheck), inputs, program, words.any_public)
         answer, walk, bits = find(bounding, words, lambda text: print(text, flush=True))
     except NoBound as fault:
         return told(str(fault), 1)
-    with open(words.output, "w", encoding="utf-8") as out:
-        out.write(answer.cut.text())
     again, beside = bounding.again(words.output, answer), trust_lines(words, bounding, answer)
     if answer.is_bounded:
         print(wrapped(bounded_lines(answer, words.public, bounding.turns, bits, again, beside)))
-        return 0
-    parting = parting_of(bounding, answer)
-    print(wrapped(unclear_lines(answer, walk, program, Places(words.program, program), again, parting, beside)))
-    return 1
+    else:
+        parting = parting_of(bounding, answer)
+        print(wrapped(unclear_lines(answer, walk, program, Places(words.program, program), again, parting, beside)))
+    write_text(words.output, answer.cut.text())
+    return 0 if answer.is_bounded else 1
 
 
 if __name__ == "__main__":

@@ -30,10 +30,10 @@ from enclosing import Search, candidates_of, passed_points
 from region_finding import NoRegion
 from region_joining import Learner, pretty_text
 from run_facts import Inputs
-from run_words import parser_of
+from run_words import add_options, number, option_words, parser_of
 from sampling import trust_of
 from source_lines import Places
-from tool import finish, program_of, told, wrapped
+from tool import finish, look_at_place, program_of, told, wrapped, write_text
 from verdicts import USUAL_TURNS
 
 NONE = (
@@ -48,12 +48,12 @@ def arguments():
     parser = parser_of(__doc__)
     parser.add_argument("public", metavar="PUBLIC")
     parser.add_argument("secrets", metavar="SECRET", nargs="+")
-    parser.add_argument("--most", type=int, default=200)
-    parser.add_argument("-j", dest="jobs", type=int, default=os.cpu_count())
+    parser.add_argument("--most", type=number(1), default=200)
+    parser.add_argument("-j", dest="jobs", type=number(1, 1024), default=os.cpu_count())
     parser.add_argument("--output", default="enclosed.regions")
-    parser.add_argument("--turns", type=int, default=USUAL_TURNS)
-    parser.add_argument("--rules", choices=["1", "2"])
-    return parser.parse_args()
+    add_options(parser, "turns", "rules")
+    parser.set_defaults(turns=USUAL_TURNS)
+    return parser.parse_intermixed_args()
 
 
 def find(words):
@@ -63,7 +63,7 @@ def find(words):
         raise NoRegion("the program has no symbols, which say where its functions are: link it without -s")
     asked.words = asked.words or MODEL
     learner = Learner(asked, program, (words.program, words.public), words.turns)
-    rules = ["--rules", words.rules] if words.rules else []
+    rules = option_words(words, "rules")
     search = Search(learner, words.secrets, rules, words.most, words.jobs)
     options = ["--turns", str(words.turns), *rules]
     passed = passed_points(asked, Inputs(words.program, words.public, None, options), words.secrets[0])
@@ -87,7 +87,7 @@ def table_of(kept, others):
 def commands(words, bits):
     """The commands that measure and check with the region file."""
     options = ["--regions", words.output] + (["--turns", str(words.turns)] if words.turns != USUAL_TURNS else [])
-    rules = ["--rules", words.rules] if words.rules else []
+    rules = option_words(words, "rules")
     run, first = [words.program, words.public], words.secrets[0]
     measure = shlex.join([*command_words(), "measure", *run, first, *options, *rules])
     return [measure + " >cut", shlex.join([*command_words(), "check", *run, "cut", str(bits), first, *options])]
@@ -96,6 +96,7 @@ def commands(words, bits):
 def main():
     """Searches, writes the region file, and prints what was kept."""
     words, begin = arguments(), time.monotonic()
+    look_at_place(words.output)
     try:
         kept, candidates, measured = find(words)
     except NoRegion as fault:
@@ -106,8 +107,7 @@ def main():
     if len(kept) == 1:
         print("No region lowers the number." if candidates else NONE)
         return 0
-    with open(words.output, "w", encoding="utf-8") as out:
-        out.write(pretty_text(kept[-1].regions))
+    write_text(words.output, pretty_text(kept[-1].regions))
     print(f"The regions are in {words.output}:")
     for line in commands(words, kept[-1].bits):
         print("    " + line)

@@ -24,6 +24,7 @@ HTML file, which needs nothing beside it, or with --text a text for a terminal.
 The status is 0 where the page is made, 1 where there is no number, 2 where the words are no command line, and 3 where a
 file cannot be used. Python 3 is enough for addresses and functions; lines of sources want -g, and llvm-symbolizer or
 addr2line for RISC-V."""
+import argparse
 import os
 import sys
 
@@ -33,7 +34,7 @@ sys.path[:0] = [os.path.join(HERE, "explain"), os.path.join(HERE, "model")]
 from against import Earlier
 from answering import Program
 from best import BestBound
-from best_words import kept_files
+from best_words import keep_files
 from bound_page import best_section, bound_page, bounded_of, pointer_section
 from bounding import NoBound
 from document import html_page, text_page
@@ -44,11 +45,13 @@ from misleading import TITLE, of_cut, of_run, of_trust, program_section, section
 from rejection import Rejection
 from rejection_page import rejection_page
 from run_facts import Inputs, NoMeasure, RunFacts, read
-from run_words import number, parser_of
+from run_words import BUDGET, add_options, number, option_words, parser_of
 from source_lines import Places
 from taint_page import taint_page
 from tainting import Tainting
-from tool import finish, program_of, told
+from tool import finish, look_at_place, program_of, told, write_text
+
+OPTIONS = ("turns", "regions", "rules", "paths")
 
 
 def arguments():
@@ -58,25 +61,30 @@ def arguments():
     parser.add_argument("secret", metavar="SECRET", nargs="*")
     for name in ("--check", "--taint"):
         parser.add_argument(name, nargs=3, metavar=("CUT", "BUDGET", "SECRET"))
-    parser.add_argument("--bound", nargs="+", metavar=("CUT", "BUDGET"))
-    for name in ("--turns", "--regions", "--rules", "--paths"):
-        parser.add_argument(name)
+    parser.add_argument("--bound", nargs=2, metavar=("CUT", "BUDGET"))
+    add_options(parser, *OPTIONS)
     parser.add_argument("--any-public", action="store_true")
     parser.add_argument("--seconds", type=number(0, kind=float), default=0, metavar="N")
     parser.add_argument("--against", metavar="CUT")
     parser.add_argument("--output", default="explain.html")
     parser.add_argument("--text", action="store_true")
     parser.add_argument("--source", action="append", default=[])
-    words = parser.parse_args()
-    if sum(bool(given) for given in (words.secret, words.check, words.taint, words.bound)) != 1:
+    words = parser.parse_intermixed_args()
+    asked = [given for given in (words.check, words.taint, words.bound) if given]
+    if len(asked) + bool(words.secret and not words.bound) != 1 or words.bound and len(words.secret) > 1:
         parser.error("name secrets, or --check or --taint CUT BUDGET SECRET, or --bound CUT BUDGET [SECRET]")
-    if words.bound and (len(words.bound) not in (2, 3) or not words.bound[1].isdigit()):
-        parser.error("--bound takes CUT BUDGET, and perhaps SECRET")
-    if words.against and len(words.secret) != 1:
+    try:
+        for given in asked:
+            BUDGET(given[1])
+    except argparse.ArgumentTypeError as fault:
+        parser.error(f"argument BUDGET: {fault}")
+    if words.against and (len(words.secret) != 1 or words.bound):
         parser.error("--against is an option of the measurement of one secret")
     for name in ("paths", "any_public"):
         if getattr(words, name) and not words.bound:
             parser.error(f"--{name.replace('_', '-')} is an option of --bound")
+    if words.seconds and asked:
+        parser.error("--seconds is an option of measured secrets")
     if words.check and words.rules:
         parser.error("--rules is no option of a check")
     return words
@@ -96,14 +104,14 @@ def page(words):
 
 def searched_section(words, program):
     """The least bound of all outputs that is found within the seconds."""
-    options = [word for name in ("regions", "turns") if getattr(words, name)
-               for word in (f"--{name}", getattr(words, name))]
+    options = option_words(words, "regions", "turns")
     search = BestBound(Program(words.flowcheck), Inputs(words.program, words.public, None, options), program,
                        words.secret, len(read(words.secret[0])), False, words.seconds, lambda text: None)
     if search.search() is None:
         return pointer_section(words)
     name = os.path.splitext("explain" if words.text or words.output == "-" else words.output)[0]
-    return best_section(search, kept_files(search, f"{name}.bound"))
+    keep_files(search, f"{name}.bound")
+    return best_section(search, f"{name}.bound")
 
 
 def page_of(words, program):
@@ -112,8 +120,7 @@ def page_of(words, program):
     for name in filter(None, [words.public, *words.secret, words.regions]):
         read(name)
     places = Places(words.program, program, words.source)
-    options = [(name, getattr(words, name)) for name in ("turns", "regions", "rules", "paths")]
-    flat = [word for name, value in options if value for word in (f"--{name}", value)]
+    flat = option_words(words, *OPTIONS)
     if words.check or words.taint:
         cut, budget, secret = words.check or words.taint
         named = asked, Inputs(words.program, words.public, secret, flat), cut, budget, program
@@ -150,6 +157,8 @@ def told_of(sections):
 def main():
     """Writes the page."""
     words = arguments()
+    if not words.text and words.output != "-":
+        look_at_place(words.output)
     try:
         title, sections = page(words)
     except NoBound as refusal:
@@ -161,8 +170,7 @@ def main():
     elif words.output == "-":
         sys.stdout.write(html_page(title, sections))
     else:
-        with open(words.output, "w", encoding="utf-8") as out:
-            out.write(html_page(title, sections))
+        write_text(words.output, html_page(title, sections))
         print(f"{title}: {words.output}")
     return int(title.startswith(NO_NUMBER))
 

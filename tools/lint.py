@@ -30,6 +30,7 @@ from linting import Lint
 from misleading import of_number, of_passed, of_reads, of_trust
 from noted_run import MOST_TURNS
 from run_facts import Inputs, read
+from run_words import TURNS
 from running import run_by_model
 from tool import finish, program_of
 from verdicts import USUAL_TURNS
@@ -37,7 +38,8 @@ from verdicts import USUAL_TURNS
 
 def arguments():
     """The words of the command line."""
-    parser = argparse.ArgumentParser(description=__doc__, formatter_class=argparse.RawDescriptionHelpFormatter)
+    parser = argparse.ArgumentParser(description=__doc__, formatter_class=argparse.RawDescriptionHelpFormatter,
+                                     allow_abbrev=False)
     parser.add_argument("program", metavar="PROG")
     parser.add_argument("cut_name", metavar="CUT", nargs="?")
     parser.add_argument("regions_name", metavar="REGIONS", nargs="?")
@@ -46,7 +48,7 @@ def arguments():
         parser.add_argument(name, metavar="N", help=argparse.SUPPRESS)
     parser.add_argument("--public", metavar="FILE", default=os.devnull)
     parser.add_argument("--secret", metavar="FILE", action="append", default=[])
-    parser.add_argument("--turns", metavar="N", type=int, default=USUAL_TURNS)
+    parser.add_argument("--turns", metavar="N", type=TURNS, default=USUAL_TURNS)
     parser.add_argument("--quiet", action="store_true")
     words = parser.parse_intermixed_args()
     words.regions = words.regions_name or words.regions

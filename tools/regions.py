@@ -32,11 +32,11 @@ sys.path[:0] = [os.path.join(HERE, "explain"), os.path.join(HERE, "model")]
 from answering import Program
 from region_finding import Calls, NoRegion, around_bounds, enclosures_of
 from region_joining import Declaration, Learner, pretty_text
-from run_facts import read
-from run_words import MOST_LENGTH, number, parser_of
+from run_facts import read, regions_of
+from run_words import MOST_LENGTH, TURNS, number, parser_of
 from sampling import drawn
 from source_lines import Places
-from tool import counted, finish, program_of, regions_of, told
+from tool import counted, finish, program_of, told
 from verdicts import USUAL_TURNS
 
 NO_RUN = "no run was made: --secret names a secret, and what a run on it writes in the regions is declared"
@@ -51,7 +51,7 @@ def arguments():
     parser.add_argument("--secret", action="append", default=[])
     parser.add_argument("--random", type=number(1), default=0, metavar="N")
     parser.add_argument("--length", type=number(0, MOST_LENGTH), metavar="N")
-    parser.add_argument("--turns", type=int, default=USUAL_TURNS)
+    parser.add_argument("--turns", type=TURNS, default=USUAL_TURNS, metavar="N")
     parser.add_argument("--code", action="store_true")
     words = parser.parse_intermixed_args()
     if bool(words.names) == bool(words.file):

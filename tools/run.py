@@ -17,30 +17,29 @@ import sys
 HERE = os.path.dirname(os.path.abspath(__file__))
 sys.path[:0] = [os.path.join(HERE, "explain"), os.path.join(HERE, "model")]
 
-from answers import MOST_TURNS
-from run_facts import read
+from run_facts import read, regions_of
+from run_words import TURNS, number
 from running import run_by_model, run_by_qemu
-from tool import finish, program_of, regions_of, told
+from tool import finish, program_of, told
 from verdicts import USUAL_TURNS
 
 
 def arguments():
     """The words of the command line."""
-    parser = argparse.ArgumentParser(description=__doc__, formatter_class=argparse.RawDescriptionHelpFormatter)
+    parser = argparse.ArgumentParser(description=__doc__, formatter_class=argparse.RawDescriptionHelpFormatter,
+                                     allow_abbrev=False)
     parser.add_argument("program", metavar="PROG")
     parser.add_argument("public", metavar="PUBLIC")
     parser.add_argument("secret", metavar="SECRET")
     parser.add_argument("--by", choices=("model", "qemu"), default="model")
     parser.add_argument("--regions", metavar="FILE")
-    parser.add_argument("--turns", metavar="N", type=int)
-    parser.add_argument("--seconds", metavar="N", type=float)
-    words = parser.parse_args()
+    parser.add_argument("--turns", metavar="N", type=TURNS)
+    parser.add_argument("--seconds", metavar="N", type=number(0.001, kind=float))
+    words = parser.parse_intermixed_args()
     if words.by == "qemu" and (words.regions or words.turns):
         parser.error("--regions and --turns are options of the model's run")
     if words.by == "model" and words.seconds:
         parser.error("--seconds is an option of qemu's run")
-    if words.turns is not None and not 1 <= words.turns <= MOST_TURNS:
-        parser.error(f"--turns is a number from 1 to {MOST_TURNS}")
     return words
 
 

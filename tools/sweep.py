@@ -33,6 +33,7 @@ from manifest import Sweep, difference
 from merge import Contradiction, Merged, answer_of, is_judged, power, report_of, write_tables
 from misleading import of_cut
 from refusals import cut_fault, program_fault, regions_fault
+from run_words import number
 from secret_lists import Refused, lists_of
 
 
@@ -43,15 +44,6 @@ whose last line says where the most outputs are, and beside it a table.
 PUBLICS is a folder whose files are the public inputs, or a file with one a line in hexadecimal; else --lengths,
 --digits or --random say which they are. Status 0: all are bounded; 1: all are answered, and some are unclear; 2: the
 words are no command line; 3: the sweep is refused; 4: some are not answered."""
-
-
-def number(lowest, highest):
-    def read_number(word):
-        if not (word.isascii() and word.isdigit() and lowest <= int(word) <= highest):
-            raise argparse.ArgumentTypeError(f"not a number from {lowest} to {highest}")
-        return int(word)
-
-    return read_number
 
 
 def lengths(word):
@@ -70,7 +62,8 @@ def words():
 
 def bound_words():
     """The words of a sweep of `bound`."""
-    parser = argparse.ArgumentParser(description=BOUND, formatter_class=argparse.RawDescriptionHelpFormatter)
+    parser = argparse.ArgumentParser(description=BOUND, formatter_class=argparse.RawDescriptionHelpFormatter,
+                                     allow_abbrev=False)
     parser.add_argument("--bound", action="store_true", help="asks `bound` of many public inputs")
     for name, text in [("prog", "the guest"), ("cut", "the cut")]:
         parser.add_argument(name, metavar=name.upper(), help=text)
@@ -121,7 +114,8 @@ def add_shared(parser):
 
 def check_words():
     """The words of a sweep of `check`."""
-    parser = argparse.ArgumentParser(description=__doc__, formatter_class=argparse.RawDescriptionHelpFormatter)
+    parser = argparse.ArgumentParser(description=__doc__, formatter_class=argparse.RawDescriptionHelpFormatter,
+                                     allow_abbrev=False)
     for name, text in [("prog", "the guest"), ("public", "the public input"), ("cut", "the cut")]:
         parser.add_argument(name, metavar=name.upper(), help=text)
     parser.add_argument("budget", metavar="BUDGET", type=number(0, 1_048_576), help="how many bits may cross in a run")

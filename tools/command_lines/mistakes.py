@@ -1,6 +1,8 @@
 #!/usr/bin/env python3
 """Runs an executable over a table of mistakes, and compares its status, its text and what it says on standard error;
-and runs the example that the help of each command has, which must end with status 0.
+and runs the example that the help of each command has, which must end with status 0. With --scripts it runs the scripts
+of tools/ over a table of their own, with the executable as FLOWCHECK: the first word is the script, usage lines are left
+out of what is said, and nothing may end with a traceback.
 
 Each mistake of the table stands in a block of its own, with a blank line behind it:
 
@@ -29,7 +31,8 @@ from compare import OPTIONS
 
 HERE = os.path.dirname(os.path.abspath(__file__))
 TOP = os.path.join(HERE, "..", "..")
-TABLE = os.path.join(HERE, "mistakes.txt")
+TABLE, SCRIPTS = (os.path.join(HERE, name) for name in ("mistakes.txt", "script_mistakes.txt"))
+USAGE = re.compile(r"usage: .*?\n(?=\S+\.py: error)", re.DOTALL)
 FILES = os.path.join(TOP, "examples", "bit")
 
 
@@ -114,21 +117,32 @@ def lay(files, folder):
             file.write(content)
 
 
-def run(command, mistake):
+def words_of(command, mistake, is_script):
+    """The words of a call, and what the environment has beside."""
+    words = shlex.split(mistake.words)
+    if not is_script:
+        return command + words, {}
+    return [sys.executable, os.path.join(TOP, "tools", words[0]), *words[1:]], {"FLOWCHECK": shlex.join(command)}
+
+
+def run(command, mistake, is_script=False):
     """The status, the first line of standard output, None where there is none, and what stands on standard error."""
+    words, added = words_of(command, mistake, is_script)
     with tempfile.TemporaryDirectory() as folder:
         lay(mistake.files, folder)
         out = open(mistake.to, "wb") if mistake.to else subprocess.PIPE
-        done = subprocess.run(command + shlex.split(mistake.words), cwd=folder, stdout=out, stderr=subprocess.PIPE)
+        done = subprocess.run(words, cwd=folder, env=os.environ | added, stdout=out, stderr=subprocess.PIPE)
         if mistake.to:
             out.close()
-    put = (done.stdout or b"").decode(errors="replace")
-    return done.returncode, put.split("\n")[0] if put else None, done.stderr.decode(errors="replace")
+    put, told = ((text or b"").decode(errors="replace") for text in (done.stdout, done.stderr))
+    if is_script:
+        told = re.sub(r"[^\s:]*/tools/", "tools/", USAGE.sub("", told))
+    return done.returncode, put.split("\n")[0].rstrip() if put else None, told
 
 
-def judged(command, mistake):
+def judged(command, mistake, is_script):
     """What differs of a mistake, or None."""
-    seen = run(command, mistake)
+    seen = run(command, mistake, is_script)
     wanted = mistake.status, mistake.put, mistake.told
     if seen == wanted:
         return None
@@ -149,37 +163,40 @@ def broken_examples(command):
             yield "%s: its example ends with status %d" % (name, run.returncode)
 
 
-def read_table():
-    """The head of the table, which says what it is, and its mistakes."""
-    with open(TABLE, encoding="utf-8") as file:
+def read_table(name):
+    """The head of a table, which says what it is, and its mistakes."""
+    with open(name, encoding="utf-8") as file:
         head, *blocks = file.read().rstrip("\n").split("\n\n")
     return head, [Mistake(block) for block in blocks]
 
 
-def write_table(command, head, mistakes):
-    """Writes the table anew, with what the executable answers."""
+def write_table(name, command, head, mistakes, is_script):
+    """Writes a table anew, with what the executable or the scripts answer."""
     for mistake in mistakes:
-        mistake.status, mistake.put, mistake.told = run(command, mistake)
-    with open(TABLE, "w", encoding="utf-8") as file:
+        mistake.status, mistake.put, mistake.told = run(command, mistake, is_script)
+    with open(name, "w", encoding="utf-8") as file:
         file.write("\n".join([head + "\n"] + [mistake.text() for mistake in mistakes]))
 
 
 def main():
     parser = argparse.ArgumentParser(description=__doc__, formatter_class=argparse.RawDescriptionHelpFormatter)
     parser.add_argument("--write", action="store_true", help="write what is answered into the table, to be read")
+    parser.add_argument("--scripts", action="store_true", help="run the scripts, with the executable as FLOWCHECK")
     parser.add_argument("command", nargs="+", help="the executable, perhaps with words before those of a mistake")
     words = parser.parse_args()
     name, *before = words.command
     command = [os.path.abspath(name) if os.sep in name else name, *before]
-    head, mistakes = read_table()
+    table = SCRIPTS if words.scripts else TABLE
+    head, mistakes = read_table(table)
     if words.write:
-        write_table(command, head, mistakes)
+        write_table(table, command, head, mistakes, words.scripts)
         return 0
-    failed = [line for line in (judged(command, mistake) for mistake in mistakes) if line]
-    failed += broken_examples(command)
+    failed = [line for line in (judged(command, mistake, words.scripts) for mistake in mistakes) if line]
+    failed += [f"{one.title}: the table has a traceback" for one in mistakes if "Traceback" in one.told]
+    failed += [] if words.scripts else broken_examples(command)
     for line in failed:
         print(line)
-    tried = len(mistakes) + len(OPTIONS)
+    tried = len(mistakes) + (0 if words.scripts else len(OPTIONS))
     print("%d passed, %d failed" % (tried - len(failed), len(failed)))
     return 1 if failed else 0
 

@@ -8,8 +8,7 @@ from flow_picture import bits_text
 from guest import shown
 from misleading import HASH, program_hash
 from refusals import cut_fault
-from run_facts import read
-from tool import Unusable
+from run_facts import Unusable, read
 
 IN_PAGE = re.compile(rb"<summary>The cut</summary><pre[^>]*>(flowcheck-cut .*?\nend)\s*</pre>", re.DOTALL)
 OTHER = "It is of another program, or of another build: {} of its points are no places of this one."

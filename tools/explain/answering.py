@@ -5,7 +5,7 @@ import shutil
 import subprocess
 
 from answers import answer_to
-from built_program import TOOLS, program_beside, program_words
+from built_program import TOOLS, program_beside, program_words, split_words
 from flowcheck import Disk
 
 
@@ -26,18 +26,25 @@ def script_words(name):
 
 
 class Program:
-    """Whoever answers command lines. `words` are the words of the built program; none are the model."""
+    """Whoever answers command lines. `words` are the words of the built program; none are the model. `said` is what it
+    has said last on standard error."""
 
     def __init__(self, command=None):
-        self.words = program_words() if command is None else shlex.split(command)
+        self.said = ""
+        self.words = program_words() if command is None else split_words(command, "--flowcheck")
 
     def name(self):
         """How a user calls it."""
         return "flowcheck" if self.words else "the model of tools/model"
 
+    def explained(self):
+        """What the program has said of its last refusal, on lines behind it."""
+        return "".join("\n" + line for line in self.said.split("\n")[1:] if line)
+
     def answer(self, words):
         """The status and the text."""
         if not self.words:
             return answer_to(Disk(), words)
-        done = subprocess.run(self.words + words, stdout=subprocess.PIPE, stderr=subprocess.DEVNULL, check=False)
+        done = subprocess.run(self.words + words, stdout=subprocess.PIPE, stderr=subprocess.PIPE, check=False)
+        self.said = done.stderr.decode("utf-8", "replace")
         return done.returncode, done.stdout.decode("utf-8", "replace")

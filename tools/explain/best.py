@@ -208,23 +208,25 @@ class BestBound:
         self.progress.show(f"{self.left():.0f} s left: {text}; {least}; {seen}"[:200])
 
     def bounding(self, regions=None, rules=None):
-        """The asking, perhaps with another region file or table."""
+        """The asking, perhaps with another region file or table; without one it is that of searches."""
         options = self.inputs.without(*["--regions"] * bool(regions), *["--rules"] * bool(rules))
         options += (["--regions", regions] if regions else []) + (["--rules", rules] if rules else [])
+        options += [] if "--rules" in options else ["--rules", SEARCH_RULES]
         inputs = Inputs(self.inputs.program, self.inputs.public, None, options)
         return Bounding(self.asked, inputs, self.program, self.is_any_public)
 
     def plain_ways(self):
         """Without regions, by each table of the mask rules."""
-        for rules in (SEARCH_RULES, "2", "1"):
+        named = self.inputs.option("--rules")
+        for rules in [named] if named else (SEARCH_RULES, "2", "1"):
             bounding = self.bounding(rules=rules)
             words = f"table {rules}" + ("" if self.inputs.option("--regions") else ", no region")
             with within(self.slice()):
                 beginnings = self.beginnings(bounding)
-            if self.secrets and rules == SEARCH_RULES:
+            if self.secrets and self.measured is None:
                 self.measured = beginnings[0][1].bits
             way = Way(words, bounding, beginnings)
-            way.is_late = rules != SEARCH_RULES
+            way.is_late = rules not in (SEARCH_RULES, named)
             yield way
 
     def beginnings(self, bounding):
@@ -234,7 +236,7 @@ class BestBound:
 
     def upstream_ways(self):
         """Cuts at the places where the values are made by which is decided."""
-        bounding, name = self.bounding(rules=SEARCH_RULES), "upstream of decisions"
+        bounding, name = self.bounding(), "upstream of decisions"
         for few in FEW:
             told = f"{name}, where values have at most {few} bit{'s' * (few > 1)}"
             yield Way(told, bounding, [("without a point", bounding.empty(self.length))], few)

@@ -1,27 +1,25 @@
 """The best bound that was found, in words: what it says, what random secrets say beside it, and how to ask again."""
 from bound_words import bounded_lines, power_words, unclear_lines
 from parting import Parting
-from run_facts import Inputs
 from source_lines import Places
+from tool import write_text
 
 
-def kept_files(search, name):
-    """Writes the cut of the best into NAME.cut and its regions into NAME.regions; the words that ask again."""
-    way, answer = search.best.way, search.best.answer
-    write(f"{name}.cut", answer.cut.text())
-    bounding = way.bounding
-    if way.regions:
-        write(f"{name}.regions", way.regions)
-        inputs = bounding.inputs
-        options = [*inputs.without("--regions"), "--regions", f"{name}.regions"]
-        bounding.inputs = Inputs(inputs.program, inputs.public, None, options)
-    return bounding.again(f"{name}.cut", answer)
+def again_words(search, name):
+    """The words that ask again, with the files that are kept beside NAME."""
+    way = search.best.way
+    if not way.regions:
+        return way.bounding.again(f"{name}.cut", search.best.answer)
+    words = way.bounding.again(f"{name}.cut", search.best.answer)
+    words[words.index("--regions") + 1] = f"{name}.regions"
+    return words
 
 
-def write(name, text):
-    """Writes a file."""
-    with open(name, "w", encoding="utf-8") as file:
-        file.write(text)
+def keep_files(search, name):
+    """Writes the cut of the best into NAME.cut, and its regions into NAME.regions."""
+    write_text(f"{name}.cut", search.best.answer.cut.text())
+    if search.best.way.regions:
+        write_text(f"{name}.regions", search.best.way.regions)
 
 
 def beside_lines(search):
@@ -46,9 +44,9 @@ def without_lines(search):
             "Without regions nothing is known of all secrets."]
 
 
-def best_lines(search, again):
-    """What was found, as lines."""
-    way, answer = search.best.way, search.best.answer
+def best_lines(search, name):
+    """What was found, as lines; its files stand beside NAME."""
+    way, answer, again = search.best.way, search.best.answer, again_words(search, name)
     lines, bounding = beside_lines(search), way.bounding
     if answer.is_bounded:
         public = search.inputs.public

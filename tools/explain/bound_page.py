@@ -4,20 +4,18 @@ import shlex
 from os.path import basename as base
 
 from answering import command_words, script_words
-from best_words import beside_lines
-from bound_words import ADVICE, FREE_WORDS, advice_at, claim, numbers_words, parting_lines, reason_kind
+from best_words import again_words, beside_lines
+from bound_words import FREE_WORDS, advice, advice_at, claim, numbers_words, parting_lines, reason_kind
 from bounding import Bounding, choices_by_point
-from cuts import read_cut
 from decision_tree import MOST_STATES, MOST_WAYS, DecisionGraph, GraphLines, Leaf, TooMany, address_words
 from document import Commands, Folded, Section, Table, Words
-from faults_of_text import cut_text_fault
 from graph_picture import GraphPicture
 from guest import shown
 from instruction_text import instruction_text, slot_words
 from parting import Parting
 from pieces_of_code import Marks, listing_blocks, source_blocks
 from rejection_page import KINDS, lines_table, point_text
-from run_facts import Inputs, read
+from run_facts import Inputs, cut_of
 from sampling import trust_of
 
 MOST_OUTPUTS, TREE, WHATEVER = 50, "The decisions", "Whatever the secret is"
@@ -40,12 +38,9 @@ class Bounded:
 
     def __init__(self, asked, inputs, named, program, is_any_public=False):
         self.inputs, self.cut_name, self.budget, self.program = inputs, named[0], int(named[1]), program
-        fault = cut_text_fault(read(self.cut_name))
-        if fault:
-            raise SystemExit("\n".join(fault.lines(self.cut_name)))
+        self.cut = cut_of(self.cut_name)
         self.secret, self.measured = (named + [None])[2], None
         self.bounding = Bounding(asked, inputs, program, is_any_public)
-        self.cut = read_cut(read(self.cut_name))
         self.answer = self.bounding.answer(self.cut, self.budget)
         if self.secret:
             self.measured = self.bounding.measured([self.secret]).bits
@@ -85,10 +80,10 @@ def claim_section(bounded):
         blocks += [Words(bounded.trust.covers_words())] if bounded.trust else []
         public = "any public input of this length" if bounded.bounding.is_any_public else "this public input"
         return Section("", *blocks, Words(answer.line, "dim"), Words(NOT_SAID.format(public=public), "dim"))
-    kind, length = reason_kind(answer.reason), answer.cut.secret_length
+    length = answer.cut.secret_length
     plural = f"{length:,} byte{'' if length == 1 else 's'}"
     blocks = [Words(f"Nothing is known of all secrets of {plural}: {answer.line}", "number")]
-    return Section("", *blocks, Words(ADVICE[kind]))
+    return Section("", *blocks, Words(advice(answer.reason)))
 
 
 def outputs_blocks(answer):
@@ -113,18 +108,18 @@ def outputs_section(bounded):
     return Section("All outputs that there can be", *blocks) if blocks else None
 
 
-def best_section(search, again):
-    """The least bound that was found of the outputs, on the page of a measured run."""
+def best_section(search, name):
+    """The least bound that was found of the outputs, on the page of a measured run; its files stand beside NAME."""
     answer, turns = search.best.answer, search.best.way.bounding.turns
     if answer.is_bounded:
         blocks = [Words(claim(answer, turns), "number"), Words(numbers_words(answer, search.measured))]
     else:
         blocks = [Words(f"No bound was found of all secrets: {answer.line}", "number"),
-                  Words(ADVICE[reason_kind(answer.reason)])]
+                  Words(advice(answer.reason))]
     blocks += [Words(line) for line in beside_lines(search)] + outputs_blocks(answer)
     blocks.append(Folded("The cut", answer.cut.text().rstrip("\n").split("\n")))
     told = f"It was looked for by {script_words('best.py')[1]}, which ended as {search.why}. To ask again:"
-    return Section(WHATEVER, *blocks, Words(told), Commands([shlex.join(again)]))
+    return Section(WHATEVER, *blocks, Words(told), Commands([shlex.join(again_words(search, name))]))
 
 
 def pointer_section(words):
@@ -216,4 +211,5 @@ def bound_page(bounded, program, places):
 
 def bounded_of(asked, words, options, program):
     """What the words of the command line ask about."""
-    return Bounded(asked, Inputs(words.program, words.public, None, options), words.bound, program, words.any_public)
+    named = [*words.bound, *words.secret]
+    return Bounded(asked, Inputs(words.program, words.public, None, options), named, program, words.any_public)

@@ -5,12 +5,20 @@ from bounding import choices_by_point
 from flow_picture import bits_text
 from guest import shown
 from instruction_text import instruction_text, slot_words
+from walk_tracing import endless_of
 
-MOST_SHOWN, MOST_POINTS = 20, 5
+MOST_SHOWN, MOST_POINTS, MOST_PATHS = 20, 5, 1 << 20
 FREE_WORDS = "A question mark is a byte of which some bits are free: it may be any that they make."
 WAYS = (
     "Decide once: collect what is compared, and branch at the end. Or enclose the code in a region, by "
-    "tools/regions.py or tools/enclose.py, so that its result alone crosses."
+    "tools/regions.py or tools/enclose.py, so that its result alone crosses; __attribute__((noinline)) keeps a function a "
+    "call, and a region can be around that."
+)
+MORE_PATHS = "It may be up to 1048576."
+ENDLESS = (
+    "This loop has no end for the walk: each time that it decides, its value may have any of {bits}. Keep it to fewer "
+    "bits by a mask, let it get smaller in a way that the rules know, as by a divisor that is no secret (--rules 3 knows "
+    "ranges), or count the rounds."
 )
 VALUES = (
     "Each bit that crosses here is a choice. Mask the value where fewer bits do. At a written byte, slot ou, bits are "
@@ -23,15 +31,22 @@ STATES = (
 OUTPUTS = "Give the result of the region fewer bits, as by a mask behind the call."
 ADVICE = {
     "left": "The walk decides by this slot, or shows it, and some of its bits may differ and have not crossed.",
-    "paths": "As many walks as --paths says are not enough. It may be up to 1048576. A walk ends where it comes to a "
-    "state that is known, so many walks are wanted where few paths come to the same state.",
+    "paths": "As many walks as --paths says are not enough. A walk ends where it comes to a state that is known, so many "
+    "walks are wanted where few paths come to the same state.",
     "outputs": "The different outputs have too many bytes together. Write less, or let the bits cross where they are "
     "written, where bits are free.",
-    "budget": "More bits cross on this path than any budget allows.",
+    "budget": "More bits cross on this path than the budget allows. A greater one may do.",
     "secret-code": "The instruction is made of bits of the secret. Keep the secret from being written where code is.",
     "base": "A range of the region begins where the secret says. Declare the whole of what may be written, with a base "
     "that is public, or leave the region at a place where the register is public.",
 }
+
+
+def advice(reason):
+    """What an unclear reason means; who has named as many walks as there may be is not told of more."""
+    told = ADVICE[reason_kind(reason)]
+    is_more = reason.startswith("paths ") and int(reason.split()[1]) < MOST_PATHS
+    return told.replace(" A walk ends", f" {MORE_PATHS} A walk ends") if is_more else told
 
 
 def reason_kind(reason):
@@ -170,6 +185,8 @@ def bounded_lines(answer, public, turns, bits, again, beside=()):
 def point_words(point, program, places):
     """A point with its place and what passes there."""
     address = point[1]
+    if not program.is_code(address):
+        return f"where no code of the program is, to which an imagined run came; {slot_words(point[2])}"
     text = instruction_text(program.instruction(address), address)
     source = places.line_of(places.at(address)).strip()
     where = f"{places.at(address).text()}, {shown(address)} {text}, {slot_words(point[2])}"
@@ -193,15 +210,24 @@ def parting_lines(parting, program, places):
     return lines + [f"    {line}" for line in parting.differences.lines(program, places)] + [STATES]
 
 
+def endless_lines(walk, program, places):
+    """Where a loop has no end for the walk, and what to change; nothing where none is seen."""
+    found = endless_of(walk)
+    if not found:
+        return []
+    point, bits = found
+    return [ENDLESS.format(bits=bits_text(bits)), "    " + point_words(point, program, places)]
+
+
 def unclear_lines(answer, walk, program, places, again, parting=None, beside=()):
     """Why it is unclear, and what to change, as lines; `beside` are lines of what else is known."""
     words, length = answer.reason.split(), answer.cut.secret_length
     kind, plural = reason_kind(answer.reason), f"{length:,} byte{'' if length == 1 else 's'}"
-    lines = ["", f"Nothing is known of all secrets of {plural}: unclear {answer.reason}.", ADVICE[kind]]
+    lines = ["", f"Nothing is known of all secrets of {plural}: unclear {answer.reason}.", advice(answer.reason)]
     if kind == "left":
         point = int(words[1]), int(words[2], 16), words[3]
         lines += ["The rounds are over. It stands at", "    " + point_words(point, program, places)]
-    lines += parting_lines(parting, program, places)
+    lines += parting_lines(parting, program, places) + endless_lines(walk, program, places)
     counted = choices_by_point(walk)
     if counted and kind in ("paths", "outputs", "budget", "left"):
         whole = len(walk.choices)

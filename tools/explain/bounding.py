@@ -10,10 +10,12 @@ from guest import shown
 from run_facts import read
 from tool import Progress
 from verdicts import MOST_BUDGET, USUAL_TURNS
-from walk_tracing import traced
+from walk_tracing import endless_of, traced
 
 USUAL_PATHS, FEW_PATHS = 1 << 16, 1 << 10
 SEARCH_RULES = "3"
+# Where the budget was raised so often, it is looked whether a loop has no end.
+LOOK_FOR_LOOPS = 8
 LINE = re.compile(r"output \d+ free (\d+) bytes (\S+) status (\d+)(?: mask (\S+) (\S+))?")
 
 
@@ -111,7 +113,7 @@ class Bounding:
             status, text = self.asked.answer([*words, *options])
         self.progress.show("")
         if status not in (0, 1) or not text.startswith(("output", "stopped", "bounded", "unclear")):
-            raise NoBound(text.strip() or f"status {status}")
+            raise NoBound((text.strip() or f"status {status}") + self.asked.explained())
         return Answer(text, cut, budget)
 
     def beginnings(self, secrets):
@@ -145,7 +147,7 @@ class Bounding:
         words = [self.inputs.program, self.inputs.public, *secrets, *self.inputs.without("--paths")]
         status, text = self.asked.answer(["measure" if len(secrets) == 1 else "measure-all", *words])
         if status:
-            raise NoBound(text.strip() or f"status {status}")
+            raise NoBound((text.strip() or f"status {status}") + self.asked.explained())
         return read_cut(text.encode())
 
     def empty(self, length):
@@ -173,6 +175,10 @@ class Search:
                 least, raised = int(words[3]), raised + 1
                 budget = min(max(least, budget + (1 << raised - 1)), MOST_BUDGET)
                 self.tell(f"{answer.reason}: budget {budget}")
+                if raised % LOOK_FOR_LOOPS == 0:
+                    walk = self.bounding.walk(answer)
+                    if endless_of(walk):
+                        return answer, walk
                 continue
             walk = self.bounding.walk(answer)
             if walk.unclear != answer.reason and words[0] not in ("paths", "outputs"):
@@ -247,7 +253,9 @@ def found(bounding, beginnings, rounds, measured, tell):
             if measured is None or answer.numbers["bits"] <= measured:
                 return answer, walk
             best = best if best and best[0].numbers["bits"] <= answer.numbers["bits"] else (answer, walk)
-    return best or last[beginnings[0][0]]
+    # Of those that are unclear, one that more walks do not help says most.
+    settled = next((pair for pair in last.values() if not pair[0].is_waiting()), None)
+    return best or settled or last[beginnings[0][0]]
 
 
 def choices_by_point(walk):

@@ -17,10 +17,18 @@ def program_beside():
     return next(filter(os.path.exists, PLACES), None)
 
 
+def split_words(command, name):
+    """The words of a command, as a shell has them."""
+    try:
+        return shlex.split(command)
+    except ValueError as fault:
+        raise SystemExit(f"{name} is no command: {fault}") from None
+
+
 def program_words():
     """The words that call the program: FLOWCHECK of the environment, the program beside the scripts, or `flowcheck` on
     the PATH; none where there is none."""
     if os.environ.get("FLOWCHECK"):
-        return shlex.split(os.environ["FLOWCHECK"])
+        return split_words(os.environ["FLOWCHECK"], "FLOWCHECK")
     found = program_beside() or shutil.which("flowcheck")
     return [found] if found else []

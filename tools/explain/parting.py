@@ -9,7 +9,7 @@ from collections import Counter
 
 from bounds import Walk
 from cuts import places_of
-from guest import READ, shown
+from guest import READ
 from instruction_text import NAMES, instruction_text
 from instructions import ALL, WIDTHS, decode
 from states import entry_part, guest_part, masks_part, shown_part, visits_part
@@ -148,7 +148,7 @@ class Differences:
         for writer in sorted(by_writer, key=lambda one: -sum(often[address] for address in by_writer[one]))[:MOST_TOLD]:
             first, count = min(by_writer[writer]), len(by_writer[writer])
             named = program.object_at(first)
-            name = f" of {named.name}" if named else f" from {shown(first)} on"
+            name = f" of {named.name}" if named else " on the stack or of the heap"
             lines.append(f"{count:,} byte{'s' * (count > 1)}{name}{writer_words(writer, program, places)}")
         return lines
 

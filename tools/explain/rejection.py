@@ -1,9 +1,8 @@
 """Where and why `check` rejects a secret, by the model: the two runs in lockstep, with what passes in the last turn."""
-from cuts import VisitMasks, read_cut, slot_width
+from cuts import VisitMasks, slot_width
 from guest import GuestExit, GuestFault, RealGuest, RegionBreak, ReplayStop
 from measures import MeasuredRun, Refused
-from refusals import cut_fault
-from run_facts import read
+from run_facts import cut_of, read
 from verdicts import MOST_BUDGET, USUAL_TURNS, RealRun, Replay, Turn, crossing, judge, mark_text, walk
 
 MOST_POINTS = 40
@@ -148,15 +147,11 @@ class Rejection:
     """A secret that a check is asked about: the program's line, the model's line, and what the model saw."""
 
     def __init__(self, asked, inputs, cut_name, budget, program):
-        self.inputs, self.cut_name, self.budget = inputs, cut_name, int(budget)
-        fault = cut_fault(read(cut_name))
-        if fault:
-            raise SystemExit(f"refused 3 cut {fault}; tools/lint.py shows it")
+        self.inputs, self.cut_name, self.budget, self.cut = inputs, cut_name, int(budget), cut_of(cut_name)
         words = ["check", inputs.program, inputs.public, cut_name, budget, inputs.secret, *inputs.options]
         _, text = asked.answer(words)
         self.line = text.split("\n")[0]
-        self.cut, self.regions = read_cut(read(cut_name)), inputs.regions()
-        self.public, self.secret = read(inputs.public), read(inputs.secret)
+        self.regions, self.public, self.secret = inputs.regions(), read(inputs.public), read(inputs.secret)
         self.program = program
         self.table, self.limit = 1, int(inputs.option("--turns") or USUAL_TURNS)
         judged = self.judged(self.cut, self.budget)

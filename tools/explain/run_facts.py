@@ -4,6 +4,11 @@ import json
 from certificates import Certificate
 from cuts import length_of, read_cut, read_regions
 from passings import POINT, RELAY
+from refusals import cut_fault, regions_fault
+
+
+class Unusable(Exception):
+    """A file that cannot be used; the text says which, why, and what says more."""
 
 
 class NoMeasure(Exception):
@@ -33,14 +38,33 @@ class Inputs:
 
     def regions(self):
         """The regions of the run's region file."""
-        name = self.option("--regions")
-        return read_regions(read(name)) if name else []
+        return regions_of(self.option("--regions"))
 
 
 def read(name):
     """The bytes of a file."""
     with open(name, "rb") as file:
         return file.read()
+
+
+def regions_of(name):
+    """The regions of a region file, none where no file is named."""
+    if not name:
+        return []
+    file = read(name)
+    fault = regions_fault(file)
+    if fault:
+        raise Unusable(f"{name}: refused 3 regions {fault}; tools/lint.py shows it")
+    return read_regions(file)
+
+
+def cut_of(name):
+    """The cut of a file."""
+    file = read(name)
+    fault = cut_fault(file)
+    if fault:
+        raise Unusable(f"{name}: refused 3 cut {fault}; tools/lint.py shows it")
+    return read_cut(file)
 
 
 class CutPoint:

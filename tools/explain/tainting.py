@@ -1,9 +1,7 @@
 """What `taint` finds of a secret, by the model: the turn at which it is found, the masks there, and what would clear
 them."""
-from cuts import read_cut
 from guest import RealGuest
-from refusals import cut_fault
-from run_facts import read
+from run_facts import cut_of, read
 from taints import Clearing, TaintedRun, Unclear, find
 from verdicts import MOST_BUDGET, USUAL_TURNS
 
@@ -72,14 +70,11 @@ class Tainting:
 
     def __init__(self, asked, inputs, cut_name, budget, program):
         self.inputs, self.cut_name, self.budget, self.program = inputs, cut_name, int(budget), program
-        fault = cut_fault(read(cut_name))
-        if fault:
-            raise SystemExit(f"refused 3 cut {fault}; tools/lint.py shows it")
+        self.cut = cut_of(cut_name)
         words = [inputs.program, inputs.public, cut_name, budget, inputs.secret, *inputs.options]
         self.line = asked.answer(["taint", *words])[1].split("\n")[0]
         self.check_line = asked.answer(["check", *words[:5], *inputs.without("--rules")])[1].split("\n")[0]
-        self.cut, self.regions = read_cut(read(cut_name)), inputs.regions()
-        self.public, self.secret = read(inputs.public), read(inputs.secret)
+        self.regions, self.public, self.secret = inputs.regions(), read(inputs.public), read(inputs.secret)
         self.table, self.limit = int(inputs.option("--rules") or 1), int(inputs.option("--turns") or USUAL_TURNS)
         found = self.found(self.cut, self.budget)
         self.is_clean, self.reason, self.model_line = found.word == "clean", found.text, f"{found.word} 1 {found.text}"

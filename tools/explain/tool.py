@@ -2,20 +2,17 @@
 import contextlib
 import os
 import signal
+import subprocess
 import sys
 import textwrap
 
-from cuts import read_regions
+from built_program import program_words
 from elf_symbols import ProgramFile
-from refusals import program_fault, regions_fault
-from run_facts import read
+from refusals import program_fault
+from run_facts import Unusable, read
 
 
 WIDTH = 115
-
-
-class Unusable(Exception):
-    """A file that cannot be used; the text says which, why, and what says more."""
 
 
 class OutOfTime(Exception):
@@ -43,19 +40,36 @@ def program_of(name):
     file = read(name)
     fault = program_fault(file)
     if fault:
-        raise Unusable(f"{name}: refused 3 program {fault}")
+        raise Unusable(f"{name}: refused 3 program {fault}{explained(name)}")
     return ProgramFile(file)
 
 
-def regions_of(name):
-    """The regions of a region file, none where no file is named."""
-    if not name:
-        return []
-    file = read(name)
-    fault = regions_fault(file)
-    if fault:
-        raise Unusable(f"{name}: refused 3 regions {fault}; tools/lint.py shows it")
-    return read_regions(file)
+def explained(name):
+    """What the built program says of a program file that it refuses, on lines of its own."""
+    words = program_words()
+    if not words:
+        return ""
+    done = subprocess.run([*words, "list", name], stdout=subprocess.DEVNULL, stderr=subprocess.PIPE, check=False)
+    lines = done.stderr.decode("utf-8", "replace").split("\n")[1:]
+    return "".join("\n" + line for line in lines if line)
+
+
+def look_at_place(name):
+    """Looks whether a file can be written, before the work begins whose outcome it takes."""
+    is_new = not os.path.exists(name)
+    with open(name, "a", encoding="utf-8"):
+        pass
+    if is_new:
+        os.unlink(name)
+
+
+def write_text(name, text):
+    """Writes a text into a file; where that fails the file is named."""
+    try:
+        with open(name, "w", encoding="utf-8", errors="backslashreplace") as out:
+            out.write(text)
+    except OSError as fault:
+        raise Unusable(f"{name}: {fault.strerror}; it is not written") from None
 
 
 def counted(number, word):
@@ -83,16 +97,20 @@ class Progress:
 
 def finish(main, unusable=3):
     """Ends the process with the status that `main` gives, with `unusable` and a line where a file cannot be used."""
+    sys.stdout.reconfigure(errors="backslashreplace")
     try:
         status = main()
         sys.stdout.flush()
     except Unusable as fault:
         status = told(str(fault), unusable)
-    except BrokenPipeError:
-        os.dup2(os.open(os.devnull, os.O_WRONLY), sys.stdout.fileno())
-        status = 1
     except OSError as fault:
-        status = told(f"{fault.filename}: {fault.strerror}" if fault.filename else str(fault), unusable)
+        is_output = fault.filename is None
+        if is_output:
+            os.dup2(os.open(os.devnull, os.O_WRONLY), sys.stdout.fileno())
+        if isinstance(fault, BrokenPipeError):
+            status = 1
+        else:
+            status = told(f"{'standard output' if is_output else fault.filename}: {fault.strerror}", unusable)
     except KeyboardInterrupt:
         status = told("stopped", 130)
     sys.exit(status)

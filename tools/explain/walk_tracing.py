@@ -1,13 +1,19 @@
 """A walk of `bound` along one path, by the model, that keeps where its choices were made and what the secret bits of
 each register and byte are made of: the points with the fewest bits that would all have to cross."""
+import copy
+from collections import Counter
+
 from bounds import Walk, path_of
 from cuts import places_of, slot_width
 from guest import PUBLIC
 from instructions import ALL, WIDTHS, decode
+from verdicts import MOST_BUDGET
 
 DECIDED, ARGUMENTS = ("de", "ou", "st"), {"nr": 17, "a0": 10, "a1": 11, "a2": 12}
 # What a value is made of is kept where it has no more bits, and of so many passings.
 FEW_BITS, MOST_KEPT = 12, 64
+# A loop seems to have no end where one that goes on at the same decision has not ended after so many turns and visits.
+MOST_LOOPS, LOOP_TURNS, LOOP_VISITS = 2, 10_000, 300
 # Where the public input may be any, its bytes have more bits than any slot: nothing crosses where they are read.
 ANY_PUBLIC = {(0, 0, "public"): (1 << 64) - 1}
 
@@ -194,6 +200,44 @@ class MakingWalk(TracedWalk):
     def stored(self, address, origin):
         """A byte is what was stored, also where it has crossed."""
         return origin
+
+
+class EndlessWalk(TracedWalk):
+    """A walk along a path that chooses one bit at all visits of a decision. `wide` has how many bits the operands might
+    have at each."""
+
+    def __init__(self, task, path, point, bit):
+        super().__init__(task, path)
+        self.point, self.bit, self.wide, self.is_there = point, bit, [], False
+
+    def pass_visit(self, visit, mask):
+        """Passes a visit."""
+        self.is_there = visit[:3] == self.point
+        if self.is_there:
+            instruction = decode(self.guest.word(self.begin, 4))
+            masks = [self.masks.registers[number] for number in (instruction.first, instruction.second)]
+            self.wide.append(max(one.bit_count() for one in masks))
+        return super().pass_visit(visit, mask)
+
+    def choose(self):
+        """The next bit."""
+        bit = super().choose()
+        self.choices[-1] = self.bit if self.is_there else bit
+        return self.choices[-1]
+
+
+def endless_of(walk):
+    """A decision of an unclear walk at which a loop has no end for the walk, with how many bits its value may have each
+    time; None where none is seen."""
+    counted = Counter((place[0], bit) for place, bit in zip(walk.places, walk.choices) if place[0][2] == "de")
+    for (point, bit), _ in counted.most_common(MOST_LOOPS):
+        task = copy.copy(walk.task)
+        task.turns, task.budget = min(task.turns, LOOP_TURNS), MOST_BUDGET
+        tried = EndlessWalk(task, list(walk.choices), point, bit).run()
+        is_endless = tried.made == task.turns and len(tried.wide) > LOOP_VISITS
+        if is_endless and tried.wide[-1] and tried.wide[-1] == tried.wide[-2]:
+            return point, tried.wide[-1]
+    return None
 
 
 def traced(task, text):

@@ -47,8 +47,10 @@ GUESTS = [
       "at most 6 bits."]),
     ("tools/guests/kept_count.c", b"", 24, ["--paths", "256"], 1,
      ["Most states part at this decision", "values[at] > LIMIT", f"{APART}register ", "kept *= 2", "clear or over"]),
+    ("tools/guests/divisor.c", b"", 2, ["--paths", "256"], 1,
+     ["This loop has no end for the walk: ", "divisor.c:9", "noinline"]),
     ("tools/guests/kept_bytes.c", b"", 24, ["--paths", "256"], 1,
-     [APART, " bytes from 0x", "high[at] = ", "decide before you store"]),
+     [APART, " bytes on the stack", "high[at] = ", "decide before you store"]),
 ]
 
 
