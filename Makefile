@@ -1,6 +1,7 @@
 # Builds Flowcheck, installs it, and makes an archive of it.
 #
-#     make            builds the program, by the Rattle kit: the first time it proves all that it stands on, for an hour
+#     make            builds the program, by the Rattle kit: the first time it proves all that it stands on, for an hour,
+#                     with a line for each crate; after the gate, .ci/run, it takes the program that the gate has built
 #     make install    installs the built program with its man page, completions, scripts, guests and documents
 #     make uninstall  removes what was installed
 #     make dist       builds the program, and makes dist/flowcheck-VERSION-x86_64-linux.tar.gz with its .sha256
@@ -17,11 +18,7 @@ OUT ?= dist
 .PHONY: build install uninstall dist
 
 build:
-	@command -v rt >/dev/null || { \
-	    echo "There is no rt on the PATH. The program is built by the Rattle kit rattle-kit-13, one folder from the" \
-	        "makers of Rattle. Without it take an archive that make dist made, or name a program that was built" \
-	        "elsewhere: make install PROGRAM=FILE" >&2; exit 1; }
-	cd crates/flowcheck && rt run -- --version
+	@python3 -B tools/packaging/build.py
 
 install:
 	python3 -B tools/packaging/install.py '$(DESTDIR)$(PREFIX)' --program '$(PROGRAM)'

@@ -7,7 +7,7 @@
 cd "$(dirname "$0")" || exit 1
 status=0
 for compiler in ${*:-gcc clang}; do
-    stories='password redactor auction bound pinpad meeting battleship picture calendar digest'
+    stories='password redactor auction bound truth pinpad meeting battleship picture calendar digest'
     [ "$compiler" = clang ] || stories="$stories hosted"
     for story in $stories; do
         python3 run_story.py "$compiler" "$story" || status=1
