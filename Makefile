@@ -2,6 +2,7 @@
 #
 #     make            builds the program, by the Rattle kit: the first time it proves all that it stands on, for an hour,
 #                     with a line for each crate; after the gate, .ci/run, it takes the program that the gate has built
+#     make demo       builds the program, and runs the first example of the README whole, with its page
 #     make install    installs the built program with its man page, completions, scripts, guests and documents
 #     make uninstall  removes what was installed
 #     make dist       builds the program, and makes dist/flowcheck-VERSION-x86_64-linux.tar.gz with its .sha256
@@ -15,10 +16,13 @@ DESTDIR ?=
 PROGRAM ?= crates/flowcheck/out/flowcheck
 OUT ?= dist
 
-.PHONY: build install uninstall dist
+.PHONY: build demo install uninstall dist
 
 build:
 	@python3 -B tools/packaging/build.py
+
+demo: $(if $(filter file,$(origin PROGRAM)),build)
+	@python3 -B tools/packaging/demo.py --program '$(PROGRAM)'
 
 install:
 	python3 -B tools/packaging/install.py '$(DESTDIR)$(PREFIX)' --program '$(PROGRAM)'
