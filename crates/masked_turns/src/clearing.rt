@@ -1,7 +1,7 @@
-ghost use Rattle.std.specs.Prelude.{◌≡◌, ◌≤◌, Some, IfOk, IsTrue};
+ghost use Rattle.std.specs.Prelude.{◌≡◌, ◌≤◌, Some, IfOk, IsTrue, OnErr};
 ghost use Rattle.flow_base.specs.Points.{is_slot};
 ghost use Rattle.rv32im_machine.specs.Playing.{IsAim, AreSources, FitsAim, FitsSlot, joins_bytes};
-ghost use Rattle.tracked_run.specs.Labels.{labels_of};
+ghost use Rattle.tracked_run.specs.Labels.{goes_to_byte, labels_of};
 ghost use Rattle.masked_turns.specs.Clearing.{aimed_mask as mask_aimed, uncrossed as mask_uncrossed};
 ghost use Rattle.masked_turns.specs.Deciding.{first_left, left_at};
 ghost use Rattle.masked_turns.specs.Notes.{Clears};
@@ -43,7 +43,7 @@ pub fn uncrossed(mask: u32, crossing: u32) -> u32
 
 /// A value passes at a visit at which these bits cross, in a turn that may be the leave, or the skip, of a skipped
 /// region: its mask is found by the book's rules, and what it goes to gets the bits that are left of it, which are the
-/// answer. `NoMemory` where there is not enough.
+/// answer. `NoMemory` if there is not enough for the mask of a byte; nothing else takes any.
 #[inline(always)]
 pub fn note_cleared(
     shadow: &mut Shadow,
@@ -62,6 +62,7 @@ pub fn note_cleared(
     ensures base { shadow.new.base ≡ shadow.old.base }
     ensures notes { IfOk result (λ mask. Clears book.now.table skipped crossing (labels_of shadow.old held.old) passing
         (labels_of shadow.new held.new) mask) }
+    ensures byte { OnErr result (IsTrue (goes_to_byte passing.aim)) }
 {
     let masks = masks_of_sources(shadow, *held, passing.sources);
     let answer = answer_of(book, passing.work, masks);

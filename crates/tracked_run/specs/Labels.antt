@@ -1,5 +1,5 @@
 -- The labels within a turn, of a shadow and the operands of the turn; and the masks of the sources of a passing.
-use Rattle.std.specs.Prelude.{◌≡◌, ◌≤◌, ℕ, List, [], ◌∷◌}
+use Rattle.std.specs.Prelude.{◌≡◌, ◌≤◌, ℕ, Bool, true, false, List, [], ◌∷◌}
 use Rattle.rv32im_machine.specs.declared.language.Aim.{Aim}
 use Rattle.rv32im_machine.specs.declared.language.Aim.TheVariants.{Put, Decide, Give}
 use Rattle.rv32im_machine.specs.declared.language.Place.{Place}
@@ -52,6 +52,18 @@ MayShape (Part part) masks = Unit {0}
 abbrev pub MayMake : Work → SourceMasks → Type 0
 MayMake (Shaped shape) masks = MayShape shape masks
 MayMake (Computed operation first second) masks = Unit {0}
+
+-- whether a place is a byte of memory: labels of bytes stand in pages, and memory is wanted for these alone
+abbrev pub is_byte : Place → Bool
+is_byte (Register register) = false
+is_byte (Byte address) = true
+is_byte First = false
+is_byte Second = false
+
+abbrev pub goes_to_byte : Aim → Bool
+goes_to_byte (Put place) = is_byte place
+goes_to_byte Decide = false
+goes_to_byte (Give place) = is_byte place
 
 -- a mask that a place may have: that of a byte has at most 8 bits
 abbrev pub IsMaskAt : Place → ℕ → Type 0

@@ -1,4 +1,4 @@
-ghost use Rattle.std.specs.Prelude.{◌≡◌, ◌<◌, ◌≤◌, ◌∷◌, [], ℕ, Some, All, OnOk, IsTrue};
+ghost use Rattle.std.specs.Prelude.{◌≡◌, ◌<◌, ◌≤◌, ◌∷◌, [], ℕ, Some, All, OnErr, OnOk, IsTrue};
 ghost use Rattle.rv32im_machine.specs.Language.{shaped};
 ghost use Rattle.shadow_masks.specs.Pages.{label_of};
 ghost use Rattle.rv32im_machine.specs.Playing.{IsPlace, IsSeen, IsSource, fits_place, moves_bits, shapes_byte};
@@ -6,7 +6,7 @@ ghost use Rattle.shadow_masks.specs.Labels.{IsLabel};
 ghost use Rattle.run_labels.specs.Looking.{look_fault as fault_of_look};
 ghost use Rattle.run_labels.specs.Masks.{moved_label as label_moved};
 ghost use Rattle.run_labels.specs.TurnLabels.{put_label as label_put, save_labels, restore_labels};
-ghost use Rattle.tracked_run.specs.Labels.{labels_of};
+ghost use Rattle.tracked_run.specs.Labels.{is_byte, labels_of};
 ghost use Rattle.tracked_run.specs.declared.held.Held.{Held as TheHeld};
 ghost use Rattle.std.specs.Option.{option_or};
 
@@ -112,7 +112,7 @@ fn moved_label(shadow: &Shadow, held: Held, shape: Shape, source: Source) -> Lab
 }
 
 /// A value moves to a place, which gets the label of what moves there.
-/// `NoMemory` where there is not enough.
+/// `NoMemory` if there is not enough for the label of a byte; nothing else takes any.
 pub fn note_move(
     shadow: &mut Shadow,
     held: &mut Held,
@@ -127,6 +127,7 @@ pub fn note_move(
     ensures base { shadow.new.base ≡ shadow.old.base }
     ensures labels { OnOk result (labels_of shadow.new held.new ≡
         label_put place (label_moved (labels_of shadow.old held.old) shape source) (labels_of shadow.old held.old)) }
+    ensures byte { OnErr result (IsTrue (is_byte place)) }
 {
     let label = moved_label(shadow, *held, shape, source);
     put_label(shadow, held, place, label)

@@ -4,7 +4,7 @@ ghost use Rattle.rv32im_machine.specs.Playing.{IsAim, IsPlace};
 ghost use Rattle.shadow_masks.specs.Labels.{IsLabel};
 ghost use Rattle.shadow_masks.specs.Pages.{label_of};
 ghost use Rattle.run_labels.specs.TurnLabels.{label_at as label_of_place, put_label as label_put, aim_label};
-ghost use Rattle.tracked_run.specs.Labels.{IsMaskAt, IsMaskFor, labels_of};
+ghost use Rattle.tracked_run.specs.Labels.{IsMaskAt, IsMaskFor, goes_to_byte, is_byte, labels_of};
 
 use crate::held::Held;
 use flow_base::{NoMemory, Point};
@@ -82,6 +82,7 @@ pub(crate) fn put_label(
     ensures put { OnOk result
         (labels_of shadow.new held.new ≡ label_put place label (labels_of shadow.old held.old)) }
     ensures other { OnErr result (label_of_place (labels_of shadow.old held.old) place ≢ label) }
+    ensures byte { OnErr result (IsTrue (is_byte place)) }
 {
     match place {
         Place::Register(register) => {
@@ -101,7 +102,7 @@ pub(crate) fn put_label(
 }
 
 /// What a value goes to gets its label; a decision goes to no place.
-/// `NoMemory` where there is not enough.
+/// `NoMemory` if there is not enough for the label of a byte; nothing else takes any.
 #[inline(always)]
 pub fn put_aimed(
     shadow: &mut Shadow,
@@ -115,6 +116,7 @@ pub fn put_aimed(
     ensures base { shadow.new.base ≡ shadow.old.base }
     ensures put { OnOk result
         (labels_of shadow.new held.new ≡ aim_label aim label (labels_of shadow.old held.old)) }
+    ensures byte { OnErr result (IsTrue (goes_to_byte aim)) }
 {
     match aim {
         Aim::Put(place) => put_label(shadow, held, place, label),
