@@ -43,7 +43,10 @@ fn hash_of(
     hash = mix_laids(hash, masks);
     for register in 0..32 {
         let value = u64::from(standing.registers().get(register));
-        hash = mix(hash, (value << 32) | u64::from(register_masks[register as usize]));
+        hash = mix(
+            hash,
+            (value << 32) | u64::from(register_masks[register as usize]),
+        );
     }
     ended(hash)
 }

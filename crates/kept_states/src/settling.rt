@@ -129,13 +129,13 @@ pub(crate) fn settle_memory(machine: &mut Machine, pieces: &Pieces, laids: &[Lai
     while page < PAGES {
         let laid = settle_page(machine, pieces, laids, page, done);
         idle = idle_after(idle, laid == done);
+        if idle > MOST_IDLE {
+            return false;
+        }
         done = laid;
         page = next_page(laids, done, page + 1, next_touched(machine, page + 1));
     }
     machine.tell_memory();
-    if idle > MOST_IDLE {
-        return false;
-    }
     done == laids.len()
 }
 

@@ -110,7 +110,10 @@ impl Shadow {
         ensures { IsNew base result }
     {
         let Shadow {
-            pages, set, alloc, ..
+            pages,
+            set,
+            alloc,
+            ..
         } = place;
         let mut pages = pages;
         let mut set = set;
