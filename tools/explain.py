@@ -44,7 +44,7 @@ from measured_page import NO_NUMBER, measured_page, refused_page
 from misleading import TITLE, of_cut, of_run, of_trust, program_section, section_of
 from rejection import Rejection
 from rejection_page import rejection_page
-from run_facts import Inputs, NoMeasure, RunFacts, read
+from run_facts import Inputs, NoMeasure, RunFacts, read, regions_of
 from run_words import BUDGET, add_options, number, option_words, parser_of
 from source_lines import Places
 from taint_page import taint_page
@@ -117,8 +117,9 @@ def searched_section(words, program):
 def page_of(words, program):
     """The title and the sections of the page, but the one of the program; there may be None among these."""
     asked = Program(words.flowcheck)
-    for name in filter(None, [words.public, *words.secret, words.regions]):
+    for name in [words.public, *words.secret]:
         read(name)
+    regions_of(words.regions)
     places = Places(words.program, program, words.source)
     flat = option_words(words, *OPTIONS)
     if words.check or words.taint:

@@ -125,9 +125,9 @@ def trial(rng):
 
 def ask(words):
     """Whether words ask for the help, that of a command or the version."""
-    if len(words) == 2:
-        first, second = words
-        return first == "help" and second in OPTIONS or first in OPTIONS and second in ("--help", "-h")
+    if len(words) > 1:
+        first, second, asking = words[0], words[1], ("--help", "-h")
+        return first in ("help", *asking) and second in OPTIONS or first in OPTIONS and not set(asking).isdisjoint(words)
     return words in (["--help"], ["-h"], ["help"], ["--version"], ["-V"])
 
 

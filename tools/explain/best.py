@@ -144,6 +144,8 @@ class BestBound:
         """Goes on with all ways that may come to an answer with so many walks, those with the fewest bits first."""
         waiting = [(way, name) for way in self.ways for name in way.cuts
                    if name not in way.answers or way.answers[name][0].is_waiting()]
+        # Other tables of rules seldom come to an answer with more walks: they have their turn at the end.
+        waiting = [pair for pair in waiting if limit == MOST_PATHS or not pair[0].is_late]
         for way, name in sorted(waiting, key=lambda pair: (pair[0].is_late, pair[0].bits(pair[1]))):
             if name not in way.answers or (way.state(name), limit) not in self.tried:
                 self.try_way(way, name, limit)

@@ -1,6 +1,7 @@
 -- The texts for people: which words ask for one, and what is known of one. The help, what is wrong with words and the
 -- form of a command are written by clap, of whose texts no clause speaks.
 use Rattle.std.specs.Prelude.{◌≡◌, ℕ, Bool, false, ◌||◌, ◌&&◌, List, [], ◌∷◌, ◌++◌, codes}
+use Rattle.std.specs.List.{list_any}
 use Rattle.std.specs.Str.{bytes_eq}
 
 -- the text of the version
@@ -44,11 +45,12 @@ abbrev pub asks_version : List (List ℕ) → Bool
 asks_version (word ∷ []) = is_version word
 asks_version words = false
 
--- the words ask for a text
+-- the words ask for a text: for the help of a command the first asks for help and the second is its name, or the first
+-- is its name and one behind it asks for help
 abbrev pub asks : List (List ℕ) → Bool
 asks (word ∷ []) = is_version word || is_help word
-asks (word ∷ other ∷ []) =
-    (bytes_eq word (codes "help") && is_command other) || (is_command word && is_help_option other)
+asks (word ∷ other ∷ rest) =
+    (is_help word && is_command other) || (is_command word && (is_help_option other || list_any is_help_option rest))
 asks words = false
 
 -- two texts with an empty line between them, and a line feed: what is wrong and a form, as clap writes them

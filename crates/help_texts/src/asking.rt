@@ -1,4 +1,5 @@
 ghost use Rattle.std.specs.Prelude.{◌≡◌, ◌∷◌, [], IfOk, Some, is_some, map, option_map, string_bytes, true};
+ghost use Rattle.std.specs.List.{list_any};
 ghost use Rattle.help_texts.specs.Texts.{asks, asks_version, is_command, is_help, is_help_option, is_judging, is_single, is_telling, is_version, version};
 
 use crate::endings::add_ending;
@@ -111,21 +112,33 @@ fn text_of_word(alloc: Global, word: &str) -> Result<Option<String>, AllocError>
     Ok(None)
 }
 
-/// The text that two words ask for; None exactly where they ask for none.
-fn text_of_pair(alloc: Global, first: &str, second: &str) -> Result<Option<String>, AllocError>
-    ensures { IfOk result (λ text. is_some text ≡ asks (first.now ∷ second.now ∷ [])) }
+/// Whether one of some words asks for help.
+fn has_option_of_help(words: &[String]) -> bool
+    ensures { result ≡ list_any is_help_option (map string_bytes words.now) }
 {
-    if first == "help" && is_command_name(second) {
+    words.iter().any(|word| is_option_of_help(word.as_str()))
+}
+
+/// The text that two or more words ask for; None exactly where they ask for none.
+fn text_of_more(
+    alloc: Global,
+    first: &str,
+    second: &str,
+    rest: &[String],
+) -> Result<Option<String>, AllocError>
+    ensures { IfOk result (λ text. is_some text ≡ asks (first.now ∷ second.now ∷ map string_bytes rest.now)) }
+{
+    if is_word_of_help(first) && is_command_name(second) {
         return Ok(Some(command_help(alloc, second)?));
     }
-    if is_command_name(first) && is_option_of_help(second) {
+    if is_command_name(first) && (is_option_of_help(second) || has_option_of_help(rest)) {
         return Ok(Some(command_help(alloc, first)?));
     }
     Ok(None)
 }
 
-/// The text that words ask for: `--help`, `-h` or `help`, `--version` or `-V`, or of a command `help COMMAND`,
-/// `COMMAND --help` or `COMMAND -h`. None exactly where they ask for none. Its error is out of memory.
+/// The text that words ask for: `--help`, `-h` or `help`, `--version` or `-V`; of a command one of the first three before
+/// its name, or `--help` or `-h` anywhere behind it. None exactly where they ask for none. Its error is out of memory.
 pub fn text_asked(alloc: Global, words: &[String]) -> Result<Option<String>, AllocError>
     ensures asked { IfOk result (λ text. is_some text ≡ asks (map string_bytes words.now)) }
     ensures version { asks_version (map string_bytes words.now) ≡ true
@@ -133,7 +146,7 @@ pub fn text_asked(alloc: Global, words: &[String]) -> Result<Option<String>, All
 {
     match words {
         [word] => text_of_word(alloc, word.as_str()),
-        [first, second] => text_of_pair(alloc, first.as_str(), second.as_str()),
+        [first, second, rest @ ..] => { text_of_more(alloc, first.as_str(), second.as_str(), rest) }
         _ => Ok(None),
     }
 }

@@ -3,6 +3,7 @@
 use crate::complaints::complaint;
 use crate::findings::add_findings;
 use crate::naming::{named, options_last};
+use crate::notes::add_notes;
 use crate::refusals::{add_malformed, add_not_loaded, add_refused_run, add_too_large};
 use clap::ArgMatches;
 use std::alloc::{AllocError, Global};
@@ -57,6 +58,7 @@ fn add_meaning<'a>(
     said: &'a str,
 ) -> Result<(), AllocError> {
     match matches.subcommand() {
+        Some((name, after)) if status == 0 => add_notes(text, after, name, said),
         Some((_, after)) if status == 1 => add_findings(alloc, text, after, said),
         Some((_, after)) => add_refusal(alloc, text, words, after, said.trim_end()),
         None => Ok(()),
@@ -103,7 +105,7 @@ pub fn explanation(
 ) -> Result<Option<String>, AllocError> {
     match status {
         2 => Ok(Some(complaint(alloc, words)?)),
-        1 | 3 | 4 | 5 | 6 => of_command_line(alloc, status, words, text_of(text)),
+        0 | 1 | 3 | 4 | 5 | 6 => of_command_line(alloc, status, words, text_of(text)),
         7 => Ok(Some(NOT_WRITTEN.to_string(alloc)?)),
         8 => Ok(Some(NO_MEMORY.to_string(alloc)?)),
         _ => Ok(None),

@@ -131,7 +131,9 @@ fn add_looking(text: &mut String, matches: &ArgMatches<'_>) -> Result<(), AllocE
     text.push_str("python3")?;
     add_words(text, matches, "tools/bound.py PROG PUBLIC LENGTH")?;
     add_run_options(text, matches)?;
-    text.push_str(" looks for a cut by itself; LENGTH is that of the secrets in bytes.\n")
+    text.push_str(
+        " looks for a cut by itself; LENGTH is that of the secrets in bytes. tools/best.py tries more.\n",
+    )
 }
 
 /// Adds what is known of paths that are unclear, the first for this cause.

@@ -13,6 +13,7 @@ mod form_table;
 mod forms;
 mod meanings;
 mod naming;
+mod notes;
 mod parsers;
 mod refusals;
 mod run_meanings;
