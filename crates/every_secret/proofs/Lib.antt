@@ -2,6 +2,8 @@ pub mod Strings
 pub mod Nodes
 pub mod Ruled
 pub mod OneVisit
+pub mod CleanRules
+pub mod IdleVisits
 pub mod TurnsStay
 pub mod MadeTurns
 pub mod WalkedPaths

@@ -1,6 +1,7 @@
 -- Definitions that only functions of this crate have in their contracts; no public contract stands on them.
 pub mod Tapes
 pub mod Visited
+pub mod Idle
 pub mod Ends
 pub mod Turning
 pub mod Walks

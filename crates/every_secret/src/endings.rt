@@ -15,6 +15,7 @@ pub(crate) enum Ending {
 }
 
 /// Whether more bits have crossed than the budget, or else the later ending.
+#[inline(always)]
 fn within(budget: u32, crossed: u32, later: Option<Ending>) -> Option<Ending>
     ensures { result ≡ ending_within (nat_lt budget crossed) budget crossed later }
 {
@@ -29,6 +30,7 @@ fn within(budget: u32, crossed: u32, later: Option<Ending>) -> Option<Ending>
 }
 
 /// Or before that a stop of the guest.
+#[inline(always)]
 fn by_mode(mode: Stepped, budget: u32, crossed: u32) -> Option<Ending>
     ensures { result ≡ ending_mode mode budget crossed }
 {
@@ -40,6 +42,7 @@ fn by_mode(mode: Stepped, budget: u32, crossed: u32) -> Option<Ending>
 }
 
 /// Or before that what is met in the turn.
+#[inline(always)]
 fn by_met(met: Option<UnclearWhy>, mode: Stepped, budget: u32, crossed: u32) -> Option<Ending>
     ensures { result ≡ ending_met met mode budget crossed }
 {

@@ -10,6 +10,7 @@ mod counts;
 mod endings;
 mod entries;
 mod findings;
+mod idle_visits;
 mod judging;
 mod kept_patterns;
 mod laws;

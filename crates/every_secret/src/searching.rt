@@ -125,6 +125,7 @@ fn look_up<'a>(
 }
 
 /// One turn, and how it ends the walk, if it does. `NoMemory` where there is not enough.
+#[inline(always)]
 fn make_one(
     search: &mut Search<'_>,
     side: &mut Walking<'_>,
@@ -179,6 +180,7 @@ fn forget_idle(
 
 /// A turn with so many left after it, at a place where a bit may cross: the state is looked up first.
 /// `NoMemory` where there is not enough.
+#[inline(never)]
 fn go_on_known<'a>(
     alloc: Global,
     search: &mut Search<'a>,
@@ -225,6 +227,7 @@ fn has_room(search: &Search<'_>, walks: Walks<'_>) -> bool {
 }
 
 /// A turn with so many left after it. `NoMemory` where there is not enough.
+#[inline(always)]
 fn go_on<'a>(
     alloc: Global,
     search: &mut Search<'a>,

@@ -23,6 +23,7 @@ use rv32im_machine::{Machine, turn_by};
 use tracked_run::{Held, entered_number};
 
 /// Whether a turn is the skip of one of the regions with these numbers.
+#[inline(always)]
 fn skips(turn: GuestTurn<'_>, skip: &[u16]) -> bool
     ensures { (regions : Seq TheRegion) →
         result ≡ is_skip (record { regions = regions; skip = skip.now }) (seen turn.entry) }
@@ -37,6 +38,7 @@ fn skips(turn: GuestTurn<'_>, skip: &[u16]) -> bool
 /// The entry or the skip of a region: first the base registers are looked at, and then whether its ranges are inside
 /// guest memory. The first range that is not is the answer, and then nothing is done.
 /// `NoMemory` where there is not enough.
+#[inline(never)]
 fn enter(
     machine: &mut Machine,
     side: &mut Walking<'_>,
@@ -73,6 +75,7 @@ fn enter(
 
 /// A turn of this kind.
 /// `NoMemory` where there is not enough.
+#[inline(always)]
 fn make_kind(
     machine: &mut Machine,
     side: &mut Walking<'_>,
@@ -108,6 +111,7 @@ fn make_kind(
 /// One turn of a walk: an instruction, the entry or the leave of a region, or its skip. A range that is not inside guest
 /// memory at an entry or a skip is the answer, and then nothing is done.
 /// `NoMemory` where there is not enough; the machine is then left in the middle of the turn.
+#[inline(always)]
 pub(crate) fn make_turn(
     machine: &mut Machine,
     side: &mut Walking<'_>,

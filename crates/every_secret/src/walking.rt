@@ -8,6 +8,7 @@ ghost use Rattle.tracked_run.specs.Labels.{labels_of};
 ghost use Rattle.every_secret.specs.Masked.{label_moved, unclear_by_left, unclear_by_look};
 ghost use Rattle.every_secret.specs.Private.Tapes.{PlaysWalk, ruling_of, tape_of};
 
+use crate::idle_visits::{are_words, is_idle, settle_aim};
 use crate::public_inputs::{PublicInput, is_public_byte, public_mask};
 use crate::shown::shown_of;
 use crate::visits::{note_free, passing_mask, put_in};
@@ -114,6 +115,36 @@ impl Walking<'_> {
     /// `NoMemory` where there is not enough.
     #[inline(always)]
     fn visit(&mut self, passing: Passing) -> Result<u32, NoMemory>
+        requires slot { IsTrue (is_slot passing.point.slot) }
+        requires value { passing.value ≤ width_of passing.point.slot }
+        requires aim { IsAim (Some self.old.shadow.base) passing.aim }
+        requires sources { AreSources (Some self.old.shadow.base) passing.sources }
+        requires joins { IsTrue (joins_bytes passing.work passing.sources) }
+        requires byte { FitsSlot passing.point.slot passing.work passing.sources }
+        requires fits { FitsAim passing.aim passing.point.slot }
+        ensures memory { self.new.shadow.base ≡ self.old.shadow.base }
+        ensures width { IfOk result (λ other. other ≤ width_of passing.point.slot) }
+        ensures goes { self.old.unclear ≡ None → (go : ℕ → Walk) → Goes result
+            (λ other. PlaysWalk self.new.region self.new.skipped (labels_of self.new.shadow self.new.held)
+            (tape_of (ruling_of self.new.book.now.table self.new.known) self.new.shadow self.new.masks self.new.bits self.new.crossed
+            self.new.byte_masks.items self.new.status_mask self.new.unclear) (go other))
+            (PlaysWalk self.old.region self.old.skipped (labels_of self.old.shadow self.old.held)
+            (tape_of (ruling_of self.old.book.now.table self.old.known) self.old.shadow self.old.masks self.old.bits self.old.crossed
+            self.old.byte_masks.items self.old.status_mask self.old.unclear) (Passed passing go)) }
+    {
+        if is_idle(&self.masks, &self.shadow, self.held, &passing, self.skipped) {
+            let _ = self.bits.left();
+            are_words(&passing, self.crossed);
+            settle_aim(&mut self.held, passing.aim, self.skipped);
+            return Ok(passing.value);
+        }
+        self.visit_busy(passing)
+    }
+
+    /// The same, whatever the visit is. It is a call of its own, so that what is put in at each place of a turn stays small.
+    /// `NoMemory` where there is not enough.
+    #[inline(never)]
+    fn visit_busy(&mut self, passing: Passing) -> Result<u32, NoMemory>
         requires slot { IsTrue (is_slot passing.point.slot) }
         requires value { passing.value ≤ width_of passing.point.slot }
         requires aim { IsAim (Some self.old.shadow.base) passing.aim }
