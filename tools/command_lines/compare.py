@@ -127,7 +127,8 @@ def ask(words):
     """Whether words ask for the help, that of a command or the version."""
     if len(words) > 1:
         first, second, asking = words[0], words[1], ("--help", "-h")
-        return first in ("help", *asking) and second in OPTIONS or first in OPTIONS and not set(asking).isdisjoint(words)
+        is_behind = first in OPTIONS and not set(asking).isdisjoint(words)
+        return first in ("help", *asking) and second in OPTIONS or is_behind
     return words in (["--help"], ["-h"], ["help"], ["--version"], ["-V"])
 
 
