@@ -60,7 +60,7 @@ def first_file(words):
         return None
     if not number(taken.get("--paths", "1"), 1, 1_048_576):
         return None
-    if not all(number(taken.get(name, "1"), 1, 2) for name in ("--rules", "--cut")):
+    if not all(number(taken.get(name, "1"), 1, most) for name, most in (("--rules", 3), ("--cut", 2))):
         return None
     if words[0] == "trial":
         return "" if len(plain) == 1 and number(plain[0], 0, 4_294_967_295) else None
