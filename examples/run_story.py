@@ -59,7 +59,8 @@ def run(command, folder, environment):
 def copy(folder, compiler):
     """Copies the scripts and the stories, and makes `flowcheck` the program. The environment for the commands."""
     for name in COPIED:
-        ignored = shutil.ignore_patterns("__pycache__", "*.elf", "*.bound", "*.cut", "*.report", "*.html", "*.regions", "secrets")
+        made = ("*.elf", "*.bound", "*.cut", "*.report", "*.html", "*.regions", "secrets")
+        ignored = shutil.ignore_patterns("__pycache__", *made)
         shutil.copytree(os.path.join(TOP, name), os.path.join(folder, name), ignore=ignored)
     command = os.path.join(folder, "bin", "flowcheck")
     os.mkdir(os.path.dirname(command))

@@ -6,8 +6,8 @@ Call: best.py PROG PUBLIC LENGTH|SECRET... [--seconds N] [--any-public] [--regio
 It tries one way after another, first with few walks and then with more: no region, by each table of mask rules; cuts
 upstream of decisions, where the values are made by which is decided; and regions around calls and loops, which are
 learnt of random secrets until none of 200 breaks one, and judged by the outputs that `bound` counts. The best is kept.
-Beside that the guest is run on 1,000 random secrets, or on all where there are fewer, by qemu where it is there, else by
-the model: how many different outputs these have is a number below which no bound can be. Where both are the same it
+Beside that the guest is run on 1,000 random secrets, or on all where there are fewer, by qemu where it is there, else
+by the model: how many different outputs these have is a number below which no bound can be. Where both are the same it
 ends, else when every way was tried, when the seconds are over, or at Ctrl-C; what was found until then is printed.
 
   --seconds N          the seconds in all; 60 without it

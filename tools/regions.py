@@ -9,9 +9,9 @@ Call: regions.py PROG NAME... [--secret FILE]... [--random N] [--length N] [--pu
   --from FILE          a region file: its regions are learnt again
   --secret FILE        a secret; may be given more than once. Without one the regions are found and declare nothing but,
                        with --code, registers: `flowcheck learn` takes such a file
-  --random N           of N secrets too that are drawn at random, of the length of the first secret or of --length; those
-                       whose runs do not exit are passed over. With 200 they are those by which the pages, bound.py,
-                       enclose.py and lint.py look whether a region is broken
+  --random N           of N secrets too that are drawn at random, of the length of the first secret or of --length;
+                       those whose runs do not exit are passed over. With 200 they are those by which the pages,
+                       bound.py, enclose.py and lint.py look whether a region is broken
   --public FILE        the public input; without it, none
   --turns N            the limit of turns of a run
   --code               declare also the registers that the code inside may write, though no run did: behind a call

@@ -60,7 +60,7 @@ def first_file(words):
         return None
     if not number(taken.get("--paths", "1"), 1, 1_048_576):
         return None
-    if not all(number(taken.get(name, "1"), 1, 2) for name in ("--rules", "--cut")):
+    if not all(number(taken.get(name, "1"), 1, most) for name, most in (("--rules", 3), ("--cut", 2))):
         return None
     if words[0] == "trial":
         return "" if len(plain) == 1 and number(plain[0], 0, 4_294_967_295) else None
@@ -127,7 +127,8 @@ def ask(words):
     """Whether words ask for the help, that of a command or the version."""
     if len(words) > 1:
         first, second, asking = words[0], words[1], ("--help", "-h")
-        return first in ("help", *asking) and second in OPTIONS or first in OPTIONS and not set(asking).isdisjoint(words)
+        is_behind = first in OPTIONS and not set(asking).isdisjoint(words)
+        return first in ("help", *asking) and second in OPTIONS or is_behind
     return words in (["--help"], ["-h"], ["help"], ["--version"], ["-V"])
 
 

@@ -1,8 +1,8 @@
 #!/usr/bin/env python3
 """Runs an executable over a table of mistakes, and compares its status, its text and what it says on standard error;
-and runs the example that the help of each command has, which must end with status 0. With --scripts it runs the scripts
-of tools/ over a table of their own, with the executable as FLOWCHECK: the first word is the script, usage lines are left
-out of what is said, and nothing may end with a traceback.
+and runs the example that the help of each command has, which must end with status 0. With --scripts it runs the
+scripts of tools/ over a table of their own, with the executable as FLOWCHECK: the first word is the script, usage lines
+are left out of what is said, and nothing may end with a traceback.
 
 Each mistake of the table stands in a block of its own, with a blank line behind it:
 

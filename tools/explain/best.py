@@ -32,8 +32,8 @@ class TimeIsOver(Exception):
 
 class Way:
     """A way to a bound: its words, the asking, and the cuts that it begins with, each tried with `few` (see `Search`).
-    `answers` are the last ones, by the names of the beginnings; `trust` is that in its regions. One that is late goes on
-    behind the others."""
+    `answers` are the last ones, by the names of the beginnings; `trust` is that in its regions. One that is late goes
+    on behind the others."""
 
     is_late = False
 

@@ -11,14 +11,14 @@ MOST_SHOWN, MOST_POINTS, MOST_PATHS = 20, 5, 1 << 20
 FREE_WORDS = "A question mark is a byte of which some bits are free: it may be any that they make."
 WAYS = (
     "Decide once: collect what is compared, and branch at the end. Or enclose the code in a region, by "
-    "tools/regions.py or tools/enclose.py, so that its result alone crosses; __attribute__((noinline)) keeps a function a "
-    "call, and a region can be around that."
+    "tools/regions.py or tools/enclose.py, so that its result alone crosses; __attribute__((noinline)) keeps a "
+    "function a call, and a region can be around that."
 )
 MORE_PATHS = "It may be up to 1048576."
 ENDLESS = (
     "This loop has no end for the walk: each time that it decides, its value may have any of {bits}. Keep it to fewer "
-    "bits by a mask, let it get smaller in a way that the rules know, as by a divisor that is no secret (--rules 3 knows "
-    "ranges), or count the rounds."
+    "bits by a mask, let it get smaller in a way that the rules know, as by a divisor that is no secret (--rules 3 "
+    "knows ranges), or count the rounds."
 )
 VALUES = (
     "Each bit that crosses here is a choice. Mask the value where fewer bits do. At a written byte, slot ou, bits are "
@@ -31,8 +31,8 @@ STATES = (
 OUTPUTS = "Give the result of the region fewer bits, as by a mask behind the call."
 ADVICE = {
     "left": "The walk decides by this slot, or shows it, and some of its bits may differ and have not crossed.",
-    "paths": "As many walks as --paths says are not enough. A walk ends where it comes to a state that is known, so many "
-    "walks are wanted where few paths come to the same state.",
+    "paths": "As many walks as --paths says are not enough. A walk ends where it comes to a state that is known, so "
+    "many walks are wanted where few paths come to the same state.",
     "outputs": "The different outputs have too many bytes together. Write less, or let the bits cross where they are "
     "written, where bits are free.",
     "budget": "More bits cross on this path than the budget allows. A greater one may do.",

@@ -185,7 +185,8 @@ def measured_page(facts, program, places, earlier=None, notes=()):
     inputs = facts.inputs
     title = f"{bits_text(facts.numbers['bits'])} of {base(inputs.secret)} in {base(inputs.program)}"
     noted = noted_of(facts, program)
-    sections = [number_section(facts), section_of([*notes_of(facts, noted, earlier, program), *notes]), output_section(noted)]
+    told = section_of([*notes_of(facts, noted, earlier, program), *notes])
+    sections = [number_section(facts), told, output_section(noted)]
     sections.append(cut_section(facts, program, places))
     sections.append(against_section(facts, earlier, program, places) if earlier else None)
     reasons = Reasons(facts, noted, program)

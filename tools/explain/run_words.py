@@ -36,7 +36,8 @@ def add_options(parser, *names):
 
 def option_words(words, *names):
     """The options that were given, as words of the program."""
-    return [word for name in names if getattr(words, name) is not None for word in (f"--{name}", str(getattr(words, name)))]
+    given = [(name, getattr(words, name)) for name in names]
+    return [word for name, value in given if value is not None for word in (f"--{name}", str(value))]
 
 
 def parser_of(text):
@@ -53,7 +54,7 @@ def length_of(secrets):
     if len(secrets) != 1 or not (secrets[0].isascii() and secrets[0].isdigit()) or os.path.exists(secrets[0]):
         return None
     if int(secrets[0]) > MOST_LENGTH:
-        raise Unusable(f"{secrets[0]}: there is no such file, and as a length of the secrets it is above {MOST_LENGTH:,}")
+        raise Unusable(f"{secrets[0]}: there is no such file, and as a length it is above {MOST_LENGTH:,}")
     return int(secrets[0])
 
 
@@ -62,6 +63,6 @@ def look_at_secrets(secrets):
     length = length_of(secrets)
     missing = [name for name in secrets if length is None and not os.path.exists(name)]
     if missing:
-        raise Unusable(f"{missing[0]}: No such file or directory; a length in bytes is one number, up to {MOST_LENGTH:,}")
+        raise Unusable(f"{missing[0]}: No such file or directory; a length is one number, up to {MOST_LENGTH:,}")
     if (os.path.getsize(secrets[0]) if length is None else length) == 0:
         print("The length is 0: there is no secret, so that nothing can be given away.", file=sys.stderr)

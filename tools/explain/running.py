@@ -55,8 +55,8 @@ def run_by_model(image, public, secret, regions, limit, passed=None):
 
 
 def output_by_qemu(program, public, secret, seconds=None):
-    """The bytes and the status of a run by qemu; None where it does not exit, or not within so many seconds. The program
-    must be executable."""
+    """The bytes and the status of a run by qemu; None where it does not exit, or not within so many seconds. The
+    program must be executable."""
     words = ["sh", "-c", f'exec {QEMU} "$0" <"$1" 3<"$2" 2>&1', program, public, secret]
     try:
         done = subprocess.run(words, stdout=subprocess.PIPE, timeout=seconds, check=False)

@@ -137,7 +137,7 @@ class Sample:
             return f"None of {runs} came to an end."
         if most == least:
             return f"{told}: so {least:,} it is, and no fewer."
-        return f"{told}: so there are {least:,} or more." if most is None else f"{told}: so there are {least:,} to {most:,}."
+        return f"{told}: so there are {least:,} " + ("or more." if most is None else f"to {most:,}.")
 
 
 class Trust:
@@ -181,12 +181,13 @@ class Trust:
 
     def covers_words(self):
         """Of how many of the secrets that were tried a bound with these regions speaks."""
-        return f"It speaks of runs that break no region: those of {self.kept():,} of {len(self.secrets):,} random secrets."
+        counts = f"{self.kept():,} of {len(self.secrets):,}"
+        return f"It speaks of runs that break no region: those of {counts} random secrets."
 
     def sentences(self):
         """What is told of each region that is broken, and how it is learnt again of these secrets too."""
-        told = [f"{count:,} of {len(self.secrets):,} random secrets break region {number}: its declaration was learnt of "
-                "too few." for number, count in sorted(self.broken.items())]
+        told = [f"{count:,} of {len(self.secrets):,} random secrets break region {number}: its declaration was learnt "
+                "of too few." for number, count in sorted(self.broken.items())]
         return [*told, f"Learn it of these: {self.learn_words()}"] if told else []
 
     def learn_words(self):

@@ -173,7 +173,8 @@ class TracedWalk(Walk):
 
 class MakingWalk(TracedWalk):
     """A walk that keeps of which values of a few bits every value is made, also behind what crossed: an origin has
-    passings, each a point with the number of its visit, and their masks. `uses` has for each choice, a point with its visit, what it was made of."""
+    passings, each a point with the number of its visit, and their masks. `uses` has for each choice, a point with its
+    visit, what it was made of."""
 
     def __init__(self, task, path):
         super().__init__(task, path)

@@ -121,7 +121,7 @@ class Tests(GuestFolder):
     def words(self, *plain, **options):
         """The words of explain.py."""
         named = ("turns", "regions", "rules", "paths", "check", "taint", "bound", "against")
-        usual = dict.fromkeys(named) | {"source": [], "any_public": False}
+        usual = dict.fromkeys(named) | {"source": [], "any_public": False, "seconds": 0}
         program, public, *secret = plain
         given = {"program": program, "public": public, "secret": secret, "flowcheck": self.program}
         return argparse.Namespace(**(usual | given | options))

@@ -52,8 +52,8 @@ class Narrow(Expectations):
         dice = random.Random(f"narrow {seed}")
         length, name = dice.randint(4, 16), f"narrow{seed}"
         source = SOURCE.format(
-            size=dice.choice([16, 32, 64, 100]), length=length, compare=dice.choice(["<", ">"]), limit=dice.randint(60, 190),
-            factor=dice.choice([1, 3, 5, 7]), change=dice.choice(["= 1", "+= 1", "^= bytes[at]"]),
+            size=dice.choice([16, 32, 64, 100]), length=length, compare=dice.choice(["<", ">"]),
+            limit=dice.randint(60, 190), factor=dice.choice([1, 3, 5, 7]), change=dice.choice(["= 1", "+= 1", "^= bytes[at]"]),
             last=dice.choice(["> 3", "% 4", "& 7"]))
         self.write(**{f"{name}.c": source, f"{name}.secret": dice.randbytes(length), f"{name}.public": b""})
         elf, named = self.built(f"{name}.c", "gcc"), [self.path(f"{name}.{kind}") for kind in ("public", "secret")]
@@ -65,8 +65,9 @@ class Narrow(Expectations):
         _, text, error = self.call("bound.py", elf, *named, "--regions", regions, "--output", self.path("cut"))
         self.expect(f"bound: {seed}", re.search(r"those of \d+ of 200 random secrets", text), text + error)
         words = re.search(r"Learn it of these: (.*) >learnt.regions", told)
-        learnt = subprocess.run(shlex.split(words[1]), cwd=self.folder, capture_output=True, check=False) if words else None
-        self.write(**{f"{name}.learnt": learnt.stdout if learnt else b""})
+        command = shlex.split(words[1]) if words else ["false"]
+        learnt = subprocess.run(command, cwd=self.folder, capture_output=True, check=False)
+        self.write(**{f"{name}.learnt": learnt.stdout})
         status, told, error = self.call("lint.py", elf, "--regions", self.path(f"{name}.learnt"), *inputs)
         self.expect(f"learnt: {seed}", status == 0 and told == "nothing found\n", told + error)
 

@@ -92,8 +92,8 @@ def main():
         told(f"{shown} is there, and no source of its {len(crates)} crates is newer: nothing is to be built.")
         return 0
     why = f"{name} is newer than {shown}" if os.path.exists(PROGRAM) else f"there is no {shown}"
-    told(f"The program is built, as {why}: rt run proves those of its {len(crates)} crates that are not proved here. From "
-         "nothing that takes an hour on four processors.")
+    told(f"The program is built, as {why}: rt run proves those of its {len(crates)} crates that are not proved here. "
+         "From nothing that takes an hour on four processors.")
     if words.look:
         return 0
     if not shutil.which("rt"):

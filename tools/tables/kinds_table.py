@@ -6,8 +6,8 @@ Call: kinds_table.py [--guest NAME...] [--compiler NAME] [--seconds N] [--flowch
 The guests are those of guests/kinds and of examples/truth, made by gcc or by what --compiler names. The true number of
 outputs was counted by hand; GUESTS says how. Prints a table: the bytes of the secret, the true number, the bits that
 `measure` has of one secret, the bound of the outputs and of their bits, how it was come to, how many outputs the random
-secrets gave, and the seconds of `make` by the clock. The last line counts the guests that were answered, those that were
-exact, and those whose bound is below the truth, for which the status is 1. The program is the option, or FLOWCHECK, or
+secrets gave, and the seconds of `make` by the clock. The last line counts the guests that were answered, those that
+were exact, and those whose bound is below the truth, for which the status is 1. The program is the option, or FLOWCHECK, or
 the built one, or the model."""
 import argparse
 import os
@@ -27,7 +27,7 @@ RECORDS = bytes([25, 1, 35, 2, 70, 2, 40, 2, 33, 1, 59, 2, 20, 2, 31, 3, 60, 1, 
 GUESTS = [
     ("door", "tools/guests/kinds", b"secret", b"sesame", 2),  # open and shut
     ("token", "tools/guests/kinds", bytes(range(16)), bytes(range(1, 17)), 2),  # 0 and 1
-    ("keypad", "examples/truth", b"Margaret000011111234", b"1234", 4),  # right at the first, second or third try, or not
+    ("keypad", "examples/truth", b"Margaret000011111234", b"1234", 4),  # right at one of three tries, or not
     ("own_hash", "tools/guests/kinds", b"\x12\x34\x56\x78", b"correcthor", 2),  # yes and no
     ("derived", "tools/guests/kinds", b"salt", b"passphra", 256),  # any byte: each was seen of random secrets
     ("card", "tools/guests/kinds", b"", b"123456781234", 3),  # right, wrong, no number
@@ -38,7 +38,8 @@ GUESTS = [
     ("sale", "tools/guests/kinds", b"", bytes([3, 9, 7, 12]), 63),
     # Twelve people in four groups: 15 * 14 * 13 / 6.
     ("bars", "tools/guests/kinds", b"", bytes([3, 15, 22, 37, 45, 60, 8, 19, 28, 33, 50, 71]), 455),
-    ("ships", "tools/guests/kinds", b"a1b2c3d4e5", bytes(1 << one for one in range(8)), 32),  # five shots, each hits or not
+    # Five shots, each of which hits or not.
+    ("ships", "tools/guests/kinds", b"a1b2c3d4e5", bytes(1 << one for one in range(8)), 32),
     ("letter", "tools/guests/kinds", b"Dear @, we are glad. @!", b"Margaret\0\0", 11),  # a name of none to ten letters
     ("sum", "tools/guests/kinds", b"", bytes([10, 20, 30, 40]), 1021),  # 0 to 1020
     ("price", "examples/truth", b"", b"k", 32),  # five bits, each another price
