@@ -28,7 +28,7 @@ HERE = os.path.dirname(os.path.abspath(__file__))
 sys.path[:0] = [os.path.join(HERE, "explain"), os.path.join(HERE, "model")]
 
 from answering import Program
-from best import BestBound
+from best_bound import BestBound
 from best_words import best_lines, keep_files
 from run_facts import Inputs, read
 from run_words import add_options, length_of, number, option_words, parser_of, look_at_secrets

@@ -33,7 +33,7 @@ sys.path[:0] = [os.path.join(HERE, "explain"), os.path.join(HERE, "model")]
 
 from against import Earlier
 from answering import Program
-from best import BestBound
+from best_bound import BestBound
 from best_words import keep_files
 from bound_page import best_section, bound_page, bounded_of, pointer_section
 from bounding import NoBound

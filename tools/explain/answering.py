@@ -1,6 +1,5 @@
 """Answers to command lines: of the built program, or of the model in `tools/model` where there is no program."""
 import os
-import shlex
 import shutil
 import subprocess
 

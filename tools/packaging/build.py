@@ -70,13 +70,18 @@ def build(crates):
     done = set()
     words = ["rt", "run", "--", "--version"]
     with subprocess.Popen(words, cwd=os.path.join(CRATES, "flowcheck")) as process:
-        while process.poll() is None:
-            time.sleep(1)
-            now = proved(crates)
-            for crate in sorted(set(now) - done, key=now.get):
-                if now[crate] != before.get(crate):
-                    done.add(crate)
-                    told(f"{(time.time() - begin) / 60:6.1f} min  {crate} is proved, {len(now)} of {len(crates)}")
+        try:
+            while process.poll() is None:
+                time.sleep(1)
+                now = proved(crates)
+                for crate in sorted(set(now) - done, key=now.get):
+                    if now[crate] != before.get(crate):
+                        done.add(crate)
+                        told(f"{(time.time() - begin) / 60:6.1f} min  {crate} is proved, {len(now)} of {len(crates)}")
+        except KeyboardInterrupt:
+            told("stopped; make goes on with what was proved until now")
+            process.wait()
+            return 130
     told(f"{(time.time() - begin) / 60:6.1f} min  rt run ended with status {process.returncode}")
     return process.returncode
 
