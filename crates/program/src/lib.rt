@@ -3,11 +3,13 @@
 #![tactic(auto)]
 
 mod keeping;
+mod other_cuts;
 
 use commands::flowcheck;
 use flow_base::{DiskFiles, Sink, StandardOut};
 use help_texts::{explanation, text_asked};
 use keeping::KeepingSink;
+use other_cuts::note_of_cut;
 use std::alloc::Global;
 use std::env;
 use std::io::ErrorKind;
@@ -46,6 +48,12 @@ fn explain(rt: HostRuntime, status: u8, text: &[u8]) {
         return;
     };
     if let Ok(Some(told)) = explanation(rt.alloc(), status, words.as_slice(), text) {
+        let _ = rt.eprint(told);
+    }
+    // Where all is accepted, a cut of another program has done no harm.
+    if status == 1
+        && let Some(told) = note_of_cut(rt.alloc(), &mut DiskFiles::new(rt), words.as_slice())
+    {
         let _ = rt.eprint(told);
     }
 }
