@@ -329,6 +329,7 @@ pub sets_part_in_page :
 sets_part_in_page registers kept base first count label pages page from inside within sets = record {
   part = sets.part;
   shorter = sets.shorter;
+  other = λ same. sets.other (label_in_page base first sets.part pages from (omega (arith, inside, sets.shorter)) ∙ same);
   sets =
       sets_in_page registers kept base first sets.part label pages page from (omega (arith, inside, sets.shorter)) within
       sets.sets;

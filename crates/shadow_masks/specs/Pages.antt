@@ -1,5 +1,5 @@
 -- The labels of a page of addresses.
-use Rattle.std.specs.Prelude.{◌≡◌, ℕ, ◌+◌, ◌-◌, ◌<◌, ◌==◌, ◌&&◌, nat_lt, nat_le, Bool, List, [], ◌∷◌, Option, Some}
+use Rattle.std.specs.Prelude.{◌≡◌, ◌≢◌, ℕ, ◌+◌, ◌-◌, ◌<◌, ◌==◌, ◌&&◌, nat_lt, nat_le, Bool, List, [], ◌∷◌, Option, Some}
 use Rattle.std.specs.Prelude.{None, if◌then◌else◌, slice_index, slice_index_or}
 use Rattle.flow_base.specs.declared.points.Point.{Point}
 use Rattle.shadow_masks.specs.declared.labels.Label.{Label}
@@ -57,10 +57,11 @@ SetsPlaces first count label old new =
     (other : ℕ) → other < page_size →
     new other ≡ (if is_in_range first count other then label (other - first) else old other)
 
--- some of the places have labels, but not all of them
+-- a first part of the places have labels; the place after them is to have another than it had
 pub record SetsFewer (first count : ℕ) (label old new : ℕ → Label) : Type 0 where
   pub part : ℕ
   pub shorter : part < count
+  pub other : old (first + part) ≢ label part
   pub sets : SetsPlaces first part label old new
 
 -- each of so many bytes from the first on is clean

@@ -1,5 +1,5 @@
 -- What a shadow holds, and what the calls that change it do.
-use Rattle.std.specs.Prelude.{◌≡◌, ℕ, ◌-◌, ◌/◌, ◌%◌, ◌<◌, ◌==◌, ◌&&◌, nat_lt, nat_le, List}
+use Rattle.std.specs.Prelude.{◌≡◌, ◌≢◌, ℕ, ◌+◌, ◌-◌, ◌/◌, ◌%◌, ◌<◌, ◌==◌, ◌&&◌, nat_lt, nat_le, List}
 use Rattle.std.specs.Prelude.{Bool, false, Option, None}
 use Rattle.std.specs.Prelude.{if◌then◌else◌, slice_index_or, length}
 use Rattle.shadow_masks.specs.declared.labels.Label.{Label}
@@ -79,10 +79,12 @@ SetsRange first length label old new = SetsBytes first length (λ offset. label)
 abbrev pub SetsLabels : ℕ → List Label → Shades → Shades → Type 0
 SetsLabels first labels old new = SetsBytes first (length labels) (listed_label labels) old new
 
--- new has labels at some of the addresses from the first on, but not at all of them; all else is as in old
+-- new has labels at a first part of the addresses; the address after them is to have another than in old; all else is
+-- as in old
 pub record SetsFirstPart (first length : ℕ) (label : ℕ → Label) (old new : Shades) : Type 0 where
   pub part : ℕ
   pub shorter : part < length
+  pub other : byte_label old (first + part) ≢ label part
   pub sets : SetsBytes first part label old new
 
 -- new has only a first part of the listed labels from an address on; all else is as in old

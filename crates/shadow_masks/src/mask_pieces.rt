@@ -107,7 +107,7 @@ impl Shadow {
     }
 
     /// Sets the masks of a piece of guest memory, 0 to 65,535, of no point of the program; where memory of the host is
-    /// short only a first part of them is set.
+    /// short only a first part of them is set. Labels that the bytes have take no memory.
     #[tactic(auto, using(crate::proofs::Pieces::masks_set_on_ok))]
     pub fn set_piece(&mut self, number: usize, masks: &[u8]) -> Result<(), NoMemory>
         requires piece { number < 65536 }

@@ -46,7 +46,8 @@ pub fn listed(labels: &[Label], offset: usize) -> Label
     labels[offset]
 }
 
-/// Sets the labels of bytes of a page from a place on; where memory is short only a first part of them is set.
+/// Sets the labels of bytes of a page from a place on; where memory is short only a first part of them is set. Labels
+/// that the bytes have take no memory.
 pub fn set_all_in(
     page: &mut Option<Page>,
     alloc: Global,

@@ -237,7 +237,7 @@ impl Shadow {
     }
 
     /// Sets the labels of `length` bytes from an address on; where memory of the host is short only a first part of
-    /// them is set.
+    /// them is set. Labels that the bytes have take no memory.
     pub fn set_range(&mut self, address: u32, length: u32, label: Label) -> Result<(), NoMemory>
         requires range { IsTrue (is_inside self.old.base address length) }
         requires label { IsByteLabel label }
@@ -251,7 +251,7 @@ impl Shadow {
     }
 
     /// Sets the labels of bytes of memory from an address on, as those of a store, each to the next of the list; where
-    /// memory of the host is short only a first part of them is set.
+    /// memory of the host is short only a first part of them is set. Labels that the bytes have take no memory.
     #[tactic(auto, using(crate::proofs::LaidMasks::set_unmade))]
     pub fn set_bytes(&mut self, address: u32, labels: &[Label]) -> Result<(), NoMemory>
         requires inside { IsTrue (is_inside self.old.base address (length labels.now)) }
