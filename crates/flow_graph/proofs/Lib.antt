@@ -10,3 +10,4 @@ pub mod CapacityEntries
 pub mod Relays
 pub mod FewPoints
 pub mod SameGraphs
+pub mod LinkOrders

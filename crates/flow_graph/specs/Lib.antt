@@ -3,3 +3,4 @@ pub mod EventGraphs
 pub mod Keeping
 pub mod Builders
 pub mod Again
+pub mod LinkOrders

@@ -10,6 +10,7 @@ mod event_lists;
 mod events;
 mod finishing;
 mod graphs;
+mod link_orders;
 mod named_links;
 mod nodes;
 
@@ -19,5 +20,6 @@ pub use ends::{Arc, End};
 pub use event_lists::EventList;
 pub use events::{Event, Events};
 pub use graphs::Graph;
+pub use link_orders::links_are_ordered;
 pub use named_links::{NamedEnd, NamedLink};
 pub use nodes::Node;

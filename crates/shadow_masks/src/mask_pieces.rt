@@ -142,7 +142,7 @@ impl Shadow {
     }
 
     /// Sets the masks of a piece of guest memory, 0 to 65,535; a byte whose mask is then not 0 may be of any point. Its
-    /// error is lack of memory; all masks then stay as they were.
+    /// error is lack of memory; all masks then stay as they were. A page that was made takes none.
     #[tactic(auto, using(crate::proofs::LaidMasks::set_unmade))]
     pub fn lay_piece(&mut self, number: usize, masks: &[u8]) -> Result<(), NoMemory>
         requires piece { number < 65536 }
@@ -152,6 +152,7 @@ impl Shadow {
         ensures kept { self.new.kept ≡ self.old.kept }
         ensures begins { self.new.base ≡ self.old.base }
         ensures err { OnErr result (self.new ≡ self.old) }
+        ensures unmade { OnErr result (page_at self.old.pages (number / 16) ≡ None) }
     {
         let alloc = self.alloc;
         self.set[number / 16] = true;

@@ -123,7 +123,7 @@ pub fn set_masks_in(
 }
 
 /// Sets the masks of 256 bytes of a page from a place on. The page is made where need be; where memory is short all stays
-/// as it was.
+/// as it was. A page that was made takes no memory.
 pub fn lay_masks_in(
     page: &mut Option<Page>,
     alloc: Global,
@@ -134,6 +134,7 @@ pub fn lay_masks_in(
     requires length { length masks.now ≡ piece_size }
     ensures ok { OnOk result (LaysMasks place masks.now (label_in page.old) (label_in page.new)) }
     ensures err { OnErr result (page.new ≡ page.old) }
+    ensures unmade { OnErr result (page.old ≡ None) }
 {
     match page {
         Some(made) => made.lay(place, masks),
