@@ -1,10 +1,11 @@
 -- What a measured run stands for, and what its turns do.
-use Rattle.std.specs.Prelude.{◌≡◌, ℕ, List, Some, None, Result, Ok, Err}
+use Rattle.std.specs.Prelude.{◌≡◌, ◌||◌, ℕ, Bool, true, false, IsTrue, List, Some, None, Result, Ok, Err}
 use Rattle.flow_base.specs.declared.lists.NoMemory.{NoMemory}
 use Rattle.enclosure_regions.specs.declared.region_parts.Region.{Region}
 use Rattle.flow_graph.specs.declared.events.Event.{Event}
 use Rattle.rv32im_machine.specs.declared.stepping.Stepped.{Stepped}
 use Rattle.rv32im_machine.specs.declared.stepping.Stepped.TheVariants as mode
+use Rattle.rv32im_machine.specs.Language.{Walk, Looked, Passed, Moved, Saved, Restored, Ended}
 use Rattle.rv32im_machine.specs.State.{State}
 use Rattle.shadow_masks.specs.Shades.{Shades}
 use Rattle.shadow_masks.specs.Writes.{ReadsAs}
@@ -15,6 +16,7 @@ use Rattle.run_labels.specs.Runs.{LabelledRun, next_walk, next_run, turn_events,
 use Rattle.run_labels.specs.TurnLabels.{at_start}
 use Rattle.tracked_run.specs.declared.outcomes.TrackedTurn.{TrackedTurn}
 use Rattle.tracked_run.specs.declared.outcomes.TrackedTurn.TheVariants.{Ran, Exited, Refused}
+use Rattle.tracked_run.specs.Labels.{is_byte}
 use Rattle.tracked_run.specs.Linking.{Appends}
 
 -- a machine and a shadow stand where a run does that has broken no region
@@ -50,7 +52,16 @@ pub record RefusesTurn (table : ℕ) (regions : List Region) (run : LabelledRun)
   pub labels : ReadsAs (next_run regions answers run).labels shadow
   pub added : Appends stood stands (turn_events regions answers run)
 
--- what a turn answers is so; where memory is short nothing is said
+-- whether a turn has an event or moves a value to a byte: memory is wanted for these alone
+unfoldable pub wants_memory : Walk → Bool
+wants_memory (Looked seen value walk) = wants_memory walk
+wants_memory (Passed passing go) = true
+wants_memory (Moved place shape source value walk) = is_byte place || wants_memory walk
+wants_memory (Saved walk) = wants_memory walk
+wants_memory (Restored registers walk replayed) = wants_memory walk
+wants_memory (Ended state) = false
+
+-- what a turn answers is so; out of memory the turn wants memory
 abbrev pub Turns : ℕ → List Region → LabelledRun → (List Event → Type 0) → (List Event → Type 0) → State → Shades →
     Result TrackedTurn NoMemory → Type 0
 Turns table regions run stood stands machine shadow (Ok Ran) =
@@ -59,4 +70,4 @@ Turns table regions run stood stands machine shadow (Ok (Exited status)) =
     MakesTurn table regions run stood stands machine shadow (mode.Exited status)
 Turns table regions run stood stands machine shadow (Ok (Refused fault)) =
     RefusesTurn table regions run stood stands machine shadow fault
-Turns table regions run stood stands machine shadow (Err none) = Unit {0}
+Turns table regions run stood stands machine shadow (Err none) = IsTrue (wants_memory (next_walk regions run))

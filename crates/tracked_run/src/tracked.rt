@@ -65,9 +65,9 @@ impl<'a> Tracked<'a> {
 
     /// One turn of the run, whose events are added: an instruction, or the entry or the leave of a region. A run that
     /// breaks a region, that is stopped, or that looks at code or at the base register of a range that may depend on the
-    /// secret is refused; the turn is played to its end all the same. `NoMemory` where there is not enough; a first part
-    /// of the turn's events may then have been added. After every answer but `Ran` each later call gives the same
-    /// answer, changes nothing and adds nothing.
+    /// secret is refused; the turn is played to its end all the same. `NoMemory` if there is not enough for an event or
+    /// for the label of a byte; a first part of the turn's events may then have been added. After every answer but `Ran`
+    /// each later call gives the same answer, changes nothing and adds nothing.
     pub fn turn<E: Events>(&mut self, events: &mut E) -> Result<TrackedTurn, NoMemory>
         ensures turns { self.old.spent ≡ None → (run : LabelledRun) → Stands self.old.machine self.old.shadow run →
             Turns self.old.book.now.table self.old.marked.regions.items run (E.stands_for events.old)

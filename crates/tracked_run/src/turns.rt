@@ -1,10 +1,11 @@
-ghost use Rattle.std.specs.Prelude.{◌≡◌, None, Ok, IfOk, IsTrue};
+ghost use Rattle.std.specs.Prelude.{◌≡◌, None, Ok, IfOk, OnErr, IsTrue};
 ghost use Rattle.tracked_run.specs.Labels.{clean_held};
 ghost use Rattle.region_machine.specs.Enclosures.{kind_of};
+ghost use Rattle.region_machine.specs.Guests.{guest_walk};
 ghost use Rattle.region_machine.specs.Within.{may_leave, seen};
 ghost use Rattle.run_labels.specs.Runs.{LabelledRun, broken_fault, stopped_fault, entered_number as number_entered};
 ghost use Rattle.tracked_run.specs.Outcomes.{fault_of, spent_by, turn_answer};
-ghost use Rattle.tracked_run.specs.Runs.{Stands, Turns};
+ghost use Rattle.tracked_run.specs.Runs.{Stands, Turns, wants_memory};
 
 use crate::changes::earlier;
 use crate::held::Held;
@@ -104,6 +105,7 @@ fn play_turn<E: Events>(
     ensures turns { IfOk result (λ turn. (run : LabelledRun) → Stands machine.old side.old.shadow.now run →
         Turns side.old.book.now.table marked.now.regions.items run (E.stands_for side.old.events.now)
         (E.stands_for side.new.events.now) machine.new side.new.shadow.now (Ok turn)) }
+    ensures memory { OnErr result (IsTrue (wants_memory (guest_walk marked.now.regions.items machine.old))) }
     ensures base { IfOk result (λ turn. side.new.shadow.now.base ≡ machine.new.setting.base) }
     ensures leave { IfOk result (λ turn. spent_by (Ok turn) ≡ None →
         IsTrue (may_leave marked.now.regions.items machine.new)) }

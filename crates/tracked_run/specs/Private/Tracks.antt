@@ -1,5 +1,5 @@
 -- What a turn of which labels are kept leaves.
-use Rattle.std.specs.Prelude.{◌≡◌, ℕ, List, [], Option, Some, None, refl}
+use Rattle.std.specs.Prelude.{◌≡◌, ℕ, IsTrue, List, [], Option, Some, None, refl}
 use Rattle.std.proofs.Common.{append-nil, subst, sym}
 use Rattle.std.specs.Borrow.{GName}
 use Rattle.flow_base.specs.declared.lists.NoMemory.{NoMemory}
@@ -15,6 +15,7 @@ use Rattle.run_labels.specs.Traces.{traced, EachAnswer, labels_in, events_in, se
 use Rattle.run_labels.specs.TurnLabels.{TurnLabels}
 use Rattle.tracked_run.specs.Labels.{map_of}
 use Rattle.tracked_run.specs.Linking.{Appends}
+use Rattle.tracked_run.specs.Runs.{wants_memory}
 use Rattle.std.specs.Option.{option_or}
 
 -- what a turn leaves: the labels, the receiver of events, the first look at what may depend on the secret, and the names
@@ -41,12 +42,12 @@ pub record EndsTracked {E : Type 0} (stands : E → List Event → Type 0) (tabl
   pub shadow_lent : after.shadow_lent ≡ before.shadow_lent
   pub events_lent : after.events_lent ≡ before.events_lent
 
--- of a turn that is stopped for lack of memory nothing is said
+-- a turn that is stopped for lack of memory wants memory
 abbrev pub Tracks : {E : Type 0} → (E → List Event → Type 0) → ℕ → ℕ → TurnLabels → Left E → Walk →
     Played NoMemory (Left E) → Type 0
 Tracks stands table region labels before walk (Finished state after) =
     EndsTracked stands table region labels before walk state after
-Tracks stands table region labels before walk (Halted stop) = Unit {0}
+Tracks stands table region labels before walk (Halted stop) = IsTrue (wants_memory walk)
 
 none_more : (fault : Option MeasureFault) → fault ≡ option_or fault None
 none_more None = refl

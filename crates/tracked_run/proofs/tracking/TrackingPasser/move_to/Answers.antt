@@ -1,5 +1,5 @@
 use Rattle.tracked_run.specs.Labels.{labels_of}
-use Rattle.tracked_run.proofs.Nodes.{tracks_moved}
+use Rattle.tracked_run.proofs.Nodes.{goes_err, tracks_moved, wants_moved}
 use Rattle.tracked_run.proofs.tracking.TrackingPasser.move_to.Goals as goal
 
 pub returns-clause-goes : goal.returns-clause-goes
@@ -16,3 +16,8 @@ returns-clause-goes g c = λ walk out after.
     })
     c.note_move.new.shadow c.args.place c.args.shape c.args.source c.args._value walk out c.in_ok-note_move.ensures.base
     c.in_ok-note_move.ensures.labels after
+
+pub returns-in_err-note_move-clause-goes : goal.returns-in_err-note_move-clause-goes
+returns-in_err-note_move-clause-goes g c = λ walk.
+    goes_err c.from_residual.result _ _ c.from_residual.ensures.0
+    (λ stop. wants_moved c.args.place c.args.shape c.args.source c.args._value walk c.in_err-note_move.ensures.byte)

@@ -1,5 +1,5 @@
 use Rattle.tracked_run.specs.Labels.{labels_of}
-use Rattle.tracked_run.proofs.Nodes.{tracks_passed}
+use Rattle.tracked_run.proofs.Nodes.{goes_err, tracks_passed, wants_passed}
 use Rattle.tracked_run.proofs.tracking.TrackingPasser.pass.Goals as goal
 
 pub returns-clause-goes : goal.returns-clause-goes
@@ -18,3 +18,7 @@ returns-clause-goes g c = λ go out after.
     c.in_ok-note_passing.ensures.base c.in_ok-note_passing.ensures.notes.is_answer.sound
     c.in_ok-note_passing.ensures.notes.is_answer.by_table c.in_ok-note_passing.ensures.notes.labels
     c.in_ok-note_passing.ensures.notes.events after
+
+pub returns-in_err-note_passing-clause-goes : goal.returns-in_err-note_passing-clause-goes
+returns-in_err-note_passing-clause-goes g c = λ go.
+    goes_err c.from_residual.result _ _ c.from_residual.ensures.0 (λ stop. wants_passed c.args.passing go)
