@@ -32,10 +32,7 @@ IsContained side skip masks past (Out region point) = Unit {0}
 
 abbrev pub past_after : Event → List Point → List Point
 past_after (Pass point mask) past = point ∷ past
-past_after (Link source target) past = past
-past_after (FromSecret point) past = past
-past_after (Implicit point region) past = past
-past_after (Out region point) past = past
+past_after event past = past
 
 -- at each visit in the events
 unfoldable pub AreContained : NamedSide → List ℕ → Masks → List Point → List Event → Type 0

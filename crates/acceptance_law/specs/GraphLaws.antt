@@ -3,7 +3,7 @@ use Rattle.std.specs.Prelude.{◌≡◌, ℕ, ◌≤◌, cond, Bool, true, List}
 use Rattle.enclosure_regions.specs.declared.region_parts.Region.{Region}
 use Rattle.flow_base.specs.Words.{bit_count}
 use Rattle.flow_graph.specs.declared.events.Event.{Event}
-use Rattle.flow_graph.specs.declared.events.Event.TheVariants.{Pass, Link, FromSecret, Implicit, Out}
+use Rattle.flow_graph.specs.declared.events.Event.TheVariants.{Pass}
 use Rattle.flow_graph.specs.declared.graphs.Graph.{Graph}
 use Rattle.flow_graph.specs.EventGraphs.{named_links, passed, IsGraphOf}
 use Rattle.max_flow.specs.declared.answers.Half.{Half}
@@ -43,10 +43,7 @@ CapacityLaw =
 -- the bits that an event passes at a split point
 abbrev pub split_bits : NamedSide → Event → ℕ
 split_bits side (Pass point mask) = cond (is_split side point) (bit_count mask) 0
-split_bits side (Link source target) = 0
-split_bits side (FromSecret point) = 0
-split_bits side (Implicit point region) = 0
-split_bits side (Out region point) = 0
+split_bits side event = 0
 
 -- the bits that pass the split points of a side are no more than its capacity
 abbrev pub SplitBitsLaw : Type 0

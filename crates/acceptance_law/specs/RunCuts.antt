@@ -3,12 +3,12 @@ use Rattle.std.specs.Prelude.{◌≡◌, ℕ, ◌&&◌, not, Bool, true, false, 
 use Rattle.std.specs.List.{list_any, AllByRecursion}
 use Rattle.flow_base.specs.declared.points.Point.{Point}
 use Rattle.flow_base.specs.declared.points.Slot.{Slot}
-use Rattle.flow_base.specs.declared.points.Slot.TheVariants.{First, Second, Address, Result, Decision, Number, Arg0, Arg1, Arg2, SecretIn, ByteOut, Status, OutReg, OutRange}
+use Rattle.flow_base.specs.declared.points.Slot.TheVariants.{First, Second, Address, Result, Decision}
 use Rattle.cut_file.specs.declared.points.CutPoint.{CutPoint}
 use Rattle.cut_file.specs.Cuts.{CutPicture}
 use Rattle.cut_file.specs.Masks.{listed_masks}
 use Rattle.flow_graph.specs.declared.events.Event.{Event}
-use Rattle.flow_graph.specs.declared.events.Event.TheVariants.{Pass, Link, FromSecret, Implicit, Out}
+use Rattle.flow_graph.specs.declared.events.Event.TheVariants.{Pass}
 use Rattle.flow_base.specs.PointOrders.{is_same}
 use Rattle.acceptance_law.specs.Sides.{NamedSide, is_split}
 use Rattle.flow_base.specs.Listed.{is_listed}
@@ -17,10 +17,7 @@ use Rattle.flow_base.specs.Listed.{is_listed}
 
 abbrev pub mask_at_event : Point → Event → List ℕ
 mask_at_event point (Pass other mask) = cond (is_same point other) (mask ∷ []) []
-mask_at_event point (Link source target) = []
-mask_at_event point (FromSecret other) = []
-mask_at_event point (Implicit other region) = []
-mask_at_event point (Out region other) = []
+mask_at_event point event = []
 
 -- the masks of the visits of a point, in order; those of mask 0 too
 unfoldable pub visit_masks : Point → List Event → List ℕ
@@ -41,15 +38,7 @@ is_instruction_slot Second = true
 is_instruction_slot Address = true
 is_instruction_slot Result = true
 is_instruction_slot Decision = true
-is_instruction_slot Number = false
-is_instruction_slot Arg0 = false
-is_instruction_slot Arg1 = false
-is_instruction_slot Arg2 = false
-is_instruction_slot SecretIn = false
-is_instruction_slot ByteOut = false
-is_instruction_slot Status = false
-is_instruction_slot (OutReg register) = false
-is_instruction_slot (OutRange range) = false
+is_instruction_slot slot = false
 
 -- a point that the replay never visits, where these regions are skipped: such a slot inside one of them; a call breaks
 -- the region that it is made in

@@ -2,50 +2,32 @@
 use Rattle.std.specs.Prelude.{◌≡◌, ℕ, ◌*◌, ◌≤◌, cond, Bool, true, false, List, length}
 use Rattle.std.specs.List.{list_all, sum_by}
 use Rattle.flow_base.specs.declared.points.Slot.{Slot}
-use Rattle.flow_base.specs.declared.points.Slot.TheVariants.{First, Second, Address, Result, Decision, Number, Arg0, Arg1, Arg2, SecretIn, ByteOut, Status, OutReg, OutRange}
+use Rattle.flow_base.specs.declared.points.Slot.TheVariants.{SecretIn}
 use Rattle.flow_base.specs.Words.{bit_count}
 use Rattle.elf32_loader.specs.Pictures.{Picture}
 use Rattle.enclosure_regions.specs.declared.region_parts.Region.{Region}
 use Rattle.flow_graph.specs.declared.events.Event.{Event}
-use Rattle.flow_graph.specs.declared.events.Event.TheVariants.{Pass, Link, FromSecret, Implicit, Out}
+use Rattle.flow_graph.specs.declared.events.Event.TheVariants.{Pass, FromSecret}
 use Rattle.region_machine.specs.Starts.{guest}
 use Rattle.run_labels.specs.Runs.{IsUnrefused, run_after, unlabelled}
 
 -- a byte of the secret passes slot `in` and no other
 abbrev pub is_secret_slot : Slot → Bool
 is_secret_slot SecretIn = true
-is_secret_slot First = false
-is_secret_slot Second = false
-is_secret_slot Address = false
-is_secret_slot Result = false
-is_secret_slot Decision = false
-is_secret_slot Number = false
-is_secret_slot Arg0 = false
-is_secret_slot Arg1 = false
-is_secret_slot Arg2 = false
-is_secret_slot ByteOut = false
-is_secret_slot Status = false
-is_secret_slot (OutReg register) = false
-is_secret_slot (OutRange range) = false
+is_secret_slot slot = false
 
 -- the bits of the secret that an event passes
 abbrev pub secret_bits_of : Event → ℕ
 secret_bits_of (Pass point mask) = cond (is_secret_slot point.slot) (bit_count mask) 0
-secret_bits_of (Link source target) = 0
-secret_bits_of (FromSecret point) = 0
-secret_bits_of (Implicit point region) = 0
-secret_bits_of (Out region point) = 0
+secret_bits_of event = 0
 
 abbrev pub secret_bits : List Event → ℕ
 secret_bits events = sum_by secret_bits_of events
 
 -- what comes from the secret comes to a slot `in`
 abbrev pub is_from_secret : Event → Bool
-is_from_secret (Pass point mask) = true
-is_from_secret (Link source target) = true
 is_from_secret (FromSecret point) = is_secret_slot point.slot
-is_from_secret (Implicit point region) = true
-is_from_secret (Out region point) = true
+is_from_secret event = true
 
 -- a run passes at most eight bits for each byte of its secret at slots `in`, and what comes from the secret comes there
 pub record ReadsSecret (secret : List ℕ) (events : List Event) : Type 0 where

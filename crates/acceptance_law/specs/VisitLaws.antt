@@ -7,7 +7,7 @@ use Rattle.elf32_loader.specs.Pictures.{Picture}
 use Rattle.enclosure_regions.specs.declared.region_parts.Region.{Region}
 use Rattle.enclosure_regions.specs.Regions.{are_regions}
 use Rattle.flow_graph.specs.declared.events.Event.{Event}
-use Rattle.flow_graph.specs.declared.events.Event.TheVariants.{Pass, Link, FromSecret, Implicit, Out}
+use Rattle.flow_graph.specs.declared.events.Event.TheVariants.{Pass}
 use Rattle.flow_graph.specs.EventGraphs.{passed}
 use Rattle.region_machine.specs.Starts.{guest}
 use Rattle.run_labels.specs.Runs.{IsUnrefused, run_after, unlabelled}
@@ -16,10 +16,7 @@ use Rattle.acceptance_law.specs.RunCuts.{visit_masks}
 -- what passes a point passes it at a slot that a turn passes
 abbrev pub is_at_slot : Event → Bool
 is_at_slot (Pass point mask) = is_slot point.slot
-is_at_slot (Link source target) = true
-is_at_slot (FromSecret point) = true
-is_at_slot (Implicit point region) = true
-is_at_slot (Out region point) = true
+is_at_slot event = true
 
 -- the events of the turns of a program from its start on, where the rules answer these masks
 abbrev pub events_of : Picture → List ℕ → List ℕ → List Region → List (List ℕ) → List Event

@@ -1,12 +1,11 @@
 -- Points are the same where they are one, and points with slots that turns pass are ordered by the numbers of the slots.
-use Rattle.std.proofs.Common.{◌≡◌, ℕ, ◌+◌, ◌<◌, ◌≤◌, ◌==◌, ◌&&◌, ◌||◌, Bool, true, false, refl, sym, ap, ◌∙◌, arith, cond}
+use Rattle.std.proofs.Common.{◌≡◌, ℕ, ◌+◌, ◌<◌, ◌≤◌, ◌==◌, Bool, true, false, refl, sym, ap, ◌∙◌, arith, cond}
 use Rattle.std.proofs.Common.{nat_lt, nat_le, nat_eq, inl, inr}
 use Rattle.std.specs.Cmp.{IsTotalOrder}
 use Rattle.std.specs.Ordering.{is_eq, is_lt, ordering_then, ordering_reverse, nat_cmp}
 use Rattle.std.specs.declared.cmp.Ordering.{Ordering}
 use Rattle.std.specs.declared.cmp.Ordering.TheVariants.{Less, Equal, Greater}
-use Rattle.std.proofs.lemmas.Bool.{and_parts, cases_Bool, cases_order, cond-false, cond-true, leb-true, le-ltb, lt-ltb, ne_eqb}
-use Rattle.std.proofs.lemmas.Bool.{ltb-true, ltb-false}
+use Rattle.std.proofs.lemmas.Bool.{and_parts, cases_Bool, cases_order, cond-false, cond-true, eq-eqb, leb-true, le-ltb, lt-ltb, ne_eqb}
 use Rattle.std.proofs.lemmas.Cmp.{tied_itself}
 use Rattle.flow_base.specs.declared.points.Point.{Point}
 use Rattle.flow_base.specs.declared.points.Slot.{Slot}
@@ -15,7 +14,7 @@ use Rattle.flow_base.specs.declared.points.Slot.TheVariants.{Arg2, SecretIn, Byt
 use Rattle.flow_base.specs.contracts.points.SlotOrd.TheImpl as slot_ord
 use Rattle.flow_base.specs.contracts.points.PointOrd.TheImpl.Laws.{total-law}
 use Rattle.flow_base.specs.Points.{is_slot, slot_number}
-use Rattle.flow_base.specs.PointOrders.{is_below, is_below_by_number, is_same, point_cmp}
+use Rattle.flow_base.specs.PointOrders.{is_below, is_same, point_cmp}
 
 abbrev pub slot_cmp : Slot → Slot → Ordering
 slot_cmp = (slot_ord.ghosts).cmp
@@ -109,38 +108,51 @@ less_number false false = refl
 pub is_lt_number : (n m : ℕ) → is_lt (nat_cmp n m) ≡ nat_lt n m
 is_lt_number n m = less_number (nat_lt n m) (n == m)
 
-then_less : (l e : Bool) (o : Ordering) → is_lt (ordering_then (cond l Less (cond e Equal Greater)) o) ≡
-    (l || (e && is_lt o))
-then_less true e o = refl
-then_less false true o = refl
-then_less false false o = refl
+nat_less : (n m : ℕ) → n < m → nat_cmp n m ≡ Less
+nat_less n m less = cond-true (nat_lt n m) Less _ (lt-ltb n m less)
+
+nat_more : (n m : ℕ) → m < n → nat_cmp n m ≡ Greater
+nat_more n m more = cond-false (nat_lt n m) Less _ (le-ltb n m (omega arith))
+    ∙ cond-false (nat_eq n m) Equal Greater (ne_eqb n m (λ s. omega (arith, s, more)))
+
+shifted : (k n m : ℕ) → nat_cmp n m ≡ nat_cmp (k + n) (k + m)
+shifted k n m = elim (cases_order n m) [
+  | inl same ↦ ap (λ i. nat_cmp n i) (sym same) ∙ (nat_same n ∙ (sym (nat_same (k + n)) ∙ ap (λ i. nat_cmp (k + n) (k + i)) same))
+  | inr (inl less) ↦ nat_less n m less ∙ sym (nat_less (k + n) (k + m) (omega (arith, less)))
+  | inr (inr more) ↦ nat_more n m more ∙ sym (nat_more (k + n) (k + m) (omega (arith, more)))
+]
+  where
+    nat_same : (n : ℕ) → nat_cmp n n ≡ Equal
+    nat_same n = cond-false (nat_lt n n) Less _ (le-ltb n n (omega arith)) ∙ cond-true (nat_eq n n) Equal Greater (eq-eqb n n refl)
 
 -- the numbers of registers come after all others, those of ranges after these
-to_register : (k register : ℕ) → k ≤ 12 → is_slot (OutReg register) ≡ true → true ≡ nat_lt k (12 + register)
+first_register : (register : ℕ) → is_slot (OutReg register) ≡ true → 1 ≤ register
+first_register register valid =
+    leb-true 1 register (and_parts (nat_le 1 register) (nat_le register 31) valid).0
+
+last_register : (register : ℕ) → is_slot (OutReg register) ≡ true → register ≤ 31
+last_register register valid =
+    leb-true register 31 (and_parts (nat_le 1 register) (nat_le register 31) valid).1
+
+to_register : (k register : ℕ) → k ≤ 12 → is_slot (OutReg register) ≡ true → Less ≡ nat_cmp k (12 + register)
 to_register k register small valid =
-    let first : 1 ≤ register = leb-true 1 register (and_parts (nat_le 1 register) (nat_le register 31) valid).0 in
-    sym (lt-ltb k (12 + register) (omega (arith, small, first)))
+    let first : 1 ≤ register = first_register register valid in
+    sym (nat_less k (12 + register) (omega (arith, small, first)))
 
-to_range : (k range : ℕ) → k ≤ 12 → true ≡ nat_lt k (44 + range)
-to_range k range small = sym (lt-ltb k (44 + range) (omega (arith, small)))
+from_register : (k register : ℕ) → k ≤ 12 → is_slot (OutReg register) ≡ true → Greater ≡ nat_cmp (12 + register) k
+from_register k register small valid =
+    let first : 1 ≤ register = first_register register valid in
+    sym (nat_more (12 + register) k (omega (arith, small, first)))
 
-behind : (k n : ℕ) → k ≤ n → false ≡ nat_lt n k
-behind k n low = sym (le-ltb n k low)
+to_range : (k range : ℕ) → k ≤ 12 → Less ≡ nat_cmp k (44 + range)
+to_range k range small = sym (nat_less k (44 + range) (omega (arith, small)))
 
-shifted : (k n m : ℕ) → nat_lt n m ≡ nat_lt (k + n) (k + m)
-shifted k n m = elim (cases_Bool (nat_lt n m)) [
-  | inl less ↦ less ∙ sym (lt-ltb (k + n) (k + m) (let below : n < m = ltb-true n m less in omega (arith, below)))
-  | inr other ↦ other ∙ sym (le-ltb (k + n) (k + m) (let high : m ≤ n = ltb-false n m other in omega (arith, high)))
-]
-
-register_range : (register range : ℕ) → is_slot (OutReg register) ≡ true → nat_lt (12 + register) (44 + range) ≡ true
-register_range register range valid =
-    let last : register ≤ 31 = leb-true register 31 (and_parts (nat_le 1 register) (nat_le register 31) valid).1 in
-    lt-ltb (12 + register) (44 + range) (omega (arith, last))
+from_range : (k range : ℕ) → k ≤ 12 → Greater ≡ nat_cmp (44 + range) k
+from_range k range small = sym (nat_more (44 + range) k (omega (arith, small)))
 
 -- slots are ordered by their numbers
 pub slots_numbered : (s t : Slot) → is_slot s ≡ true → is_slot t ≡ true →
-    is_lt (slot_cmp s t) ≡ nat_lt (slot_number s) (slot_number t)
+    slot_cmp s t ≡ nat_cmp (slot_number s) (slot_number t)
 slots_numbered First (OutReg m) a b = to_register 1 m (omega arith) b
 slots_numbered First (OutRange m) a b = to_range 1 m (omega arith)
 slots_numbered First t a b = refl
@@ -177,24 +189,22 @@ slots_numbered ByteOut t a b = refl
 slots_numbered Status (OutReg m) a b = to_register 12 m (omega arith) b
 slots_numbered Status (OutRange m) a b = to_range 12 m (omega arith)
 slots_numbered Status t a b = refl
-slots_numbered (OutReg n) (OutReg m) a b = is_lt_number n m ∙ shifted 12 n m
-slots_numbered (OutReg n) (OutRange m) a b = sym (register_range n m a)
-slots_numbered (OutReg n) t a b = behind (slot_number t) (12 + n) (omega arith)
-slots_numbered (OutRange n) (OutRange m) a b = is_lt_number n m ∙ shifted 44 n m
+slots_numbered (OutReg n) (OutReg m) a b = shifted 12 n m
+slots_numbered (OutReg n) (OutRange m) a b =
+    let last : n ≤ 31 = last_register n a in sym (nat_less (12 + n) (44 + m) (omega (arith, last)))
+slots_numbered (OutReg n) t a b = from_register (slot_number t) n (omega arith) a
+slots_numbered (OutRange n) (OutRange m) a b = shifted 44 n m
 slots_numbered (OutRange n) (OutReg m) a b =
-    let before : nat_lt (12 + m) (44 + n) ≡ true = register_range m n b in
-    behind (12 + m) (44 + n) (let low : 12 + m < 44 + n = ltb-true (12 + m) (44 + n) before in omega (arith, low))
-slots_numbered (OutRange n) t a b = behind (slot_number t) (44 + n) (omega arith)
+    let last : m ≤ 31 = last_register m b in sym (nat_more (44 + n) (12 + m) (omega (arith, last)))
+slots_numbered (OutRange n) t a b = from_range (slot_number t) n (omega arith)
 
 pub points_numbered : (p q : Point) → is_slot p.slot ≡ true → is_slot q.slot ≡ true →
-    is_below p q ≡ is_below_by_number p q
+    point_cmp p q
+    ≡ ordering_then (nat_cmp p.region q.region)
+    (ordering_then (nat_cmp p.address q.address) (nat_cmp (slot_number p.slot) (slot_number q.slot)))
 points_numbered p q a b =
-    let inner : Ordering = ordering_then (nat_cmp p.address q.address) (slot_cmp p.slot q.slot) in
-    then_less (nat_lt p.region q.region) (p.region == q.region) inner
-    ∙ ap (λ later. nat_lt p.region q.region || ((p.region == q.region) && later))
-    (then_less (nat_lt p.address q.address) (p.address == q.address) (slot_cmp p.slot q.slot)
-    ∙ ap (λ later. nat_lt p.address q.address || ((p.address == q.address) && later))
-    (slots_numbered p.slot q.slot a b))
+    ap (λ slots. ordering_then (nat_cmp p.region q.region) (ordering_then (nat_cmp p.address q.address) slots))
+    (slots_numbered p.slot q.slot a b)
 
 -- ---- the order
 

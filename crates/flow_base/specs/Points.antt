@@ -8,20 +8,9 @@ use Rattle.flow_base.specs.declared.points.Slot.TheVariants.{First, Second, Addr
 
 -- a region has output registers x1 to x31 and at most 64 ranges
 abbrev pub is_slot : Slot → Bool
-is_slot First = true
-is_slot Second = true
-is_slot Address = true
-is_slot Result = true
-is_slot Decision = true
-is_slot Number = true
-is_slot Arg0 = true
-is_slot Arg1 = true
-is_slot Arg2 = true
-is_slot SecretIn = true
-is_slot ByteOut = true
-is_slot Status = true
 is_slot (OutReg register) = nat_le 1 register && nat_le register 31
 is_slot (OutRange range) = nat_lt range 64
+is_slot slot = true
 
 -- the number by which slots are ordered
 abbrev pub slot_number : Slot → ℕ
@@ -42,37 +31,18 @@ slot_number (OutRange range) = 44 + range
 
 -- the mask of all bits that a value of the slot may have
 abbrev pub width_of : Slot → ℕ
-width_of First = 4294967295
-width_of Second = 4294967295
-width_of Address = 4294967295
-width_of Result = 4294967295
 width_of Decision = 1
-width_of Number = 4294967295
-width_of Arg0 = 4294967295
-width_of Arg1 = 4294967295
-width_of Arg2 = 4294967295
 width_of SecretIn = 255
 width_of ByteOut = 255
 width_of Status = 255
-width_of (OutReg register) = 4294967295
 width_of (OutRange range) = 255
+width_of slot = 4294967295
 
 -- an output of a region: one of its registers, or a byte of one of its ranges
 abbrev pub is_output_slot : Slot → Bool
-is_output_slot First = false
-is_output_slot Second = false
-is_output_slot Address = false
-is_output_slot Result = false
-is_output_slot Decision = false
-is_output_slot Number = false
-is_output_slot Arg0 = false
-is_output_slot Arg1 = false
-is_output_slot Arg2 = false
-is_output_slot SecretIn = false
-is_output_slot ByteOut = false
-is_output_slot Status = false
 is_output_slot (OutReg register) = true
 is_output_slot (OutRange range) = true
+is_output_slot slot = false
 
 -- the text of a slot: two letters, or a letter and a number
 abbrev pub slot_text : Slot → List ℕ

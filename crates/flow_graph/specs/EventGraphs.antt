@@ -25,10 +25,7 @@ use Rattle.flow_graph.specs.contracts.named_links.NamedLinkOrd.TheImpl as link_o
 -- the bits that an event passes at a point
 abbrev pub bits_at : Point → Event → ℕ
 bits_at q (Pass p mask) = cond (is_same p q) (bit_count mask) 0
-bits_at q (Link s t) = 0
-bits_at q (FromSecret p) = 0
-bits_at q (Implicit p r) = 0
-bits_at q (Out r p) = 0
+bits_at q event = 0
 
 -- all bits that pass a point: its capacity, and 0 where no mask other than 0 was passed
 abbrev pub passed : List Event → Point → ℕ
@@ -68,10 +65,8 @@ abbrev pub is_among : List NamedLink → NamedLink → Bool
 is_among list link = list_any (λ other. eq_by_cmp link_cmp other link) list
 
 abbrev pub is_relay_of : ℕ → NamedEnd → Bool
-is_relay_of region Source = false
-is_relay_of region (At p) = false
 is_relay_of region (Relay r) = nat_eq region r
-is_relay_of region Sink = false
+is_relay_of region end = false
 
 -- a link from or to the relay of a region
 abbrev pub names_relay : ℕ → NamedLink → Bool

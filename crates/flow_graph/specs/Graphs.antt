@@ -55,15 +55,11 @@ is_target count relays Sink = true
 -- from the source only a point is reached
 abbrev pub is_point_end : End → Bool
 is_point_end (PointEnd index) = true
-is_point_end Source = false
-is_point_end (Relay region) = false
-is_point_end Sink = false
+is_point_end end = false
 
 abbrev pub leads_on : End → End → Bool
 leads_on Source target = is_point_end target
-leads_on (PointEnd index) target = true
-leads_on (Relay region) target = true
-leads_on Sink target = true
+leads_on source target = true
 
 abbrev pub is_link : ℕ → List ℕ → Arc → Bool
 is_link count relays link =

@@ -27,21 +27,15 @@ capacities graph = map (λ node. node.capacity) graph.points
 -- whether an end is the source, a point or the relay of a region
 abbrev pub at_source : End → Bool
 at_source Source = true
-at_source (Point i) = false
-at_source (Relay r) = false
-at_source Sink = false
+at_source end = false
 
 abbrev pub at_point : ℕ → End → Bool
-at_point point Source = false
 at_point point (Point i) = nat_eq i point
-at_point point (Relay r) = false
-at_point point Sink = false
+at_point point end = false
 
 abbrev pub at_relay : ℕ → End → Bool
-at_relay region Source = false
-at_relay region (Point i) = false
 at_relay region (Relay r) = nat_eq r region
-at_relay region Sink = false
+at_relay region end = false
 
 -- what flows out of an end, and into it: over the links from it, and over those to it
 abbrev pub flow_out : Graph → List ℕ → (End → Bool) → ℕ

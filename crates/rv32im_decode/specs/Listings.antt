@@ -109,15 +109,10 @@ store_kind funct3 =
 
 -- whether the immediate is a number of places to shift by
 abbrev pub is_shift : ImmKind → Bool
-is_shift Addi = false
-is_shift Slti = false
-is_shift Sltiu = false
-is_shift Xori = false
-is_shift Ori = false
-is_shift Andi = false
 is_shift Slli = true
 is_shift Srli = true
 is_shift Srai = true
+is_shift kind = false
 
 -- funct3 of a register-immediate operation
 abbrev pub imm_funct3 : ImmKind → ℕ
@@ -133,15 +128,8 @@ imm_funct3 Srai = 0b101
 
 -- funct7 of a shift by an immediate, which only shifts have
 abbrev pub shift_funct7 : ImmKind → ℕ
-shift_funct7 Addi = 0
-shift_funct7 Slti = 0
-shift_funct7 Sltiu = 0
-shift_funct7 Xori = 0
-shift_funct7 Ori = 0
-shift_funct7 Andi = 0
-shift_funct7 Slli = 0b0000000
-shift_funct7 Srli = 0b0000000
 shift_funct7 Srai = 0b0100000
+shift_funct7 kind = 0b0000000
 
 -- the shift to the left with this funct7
 abbrev pub left_shift : ℕ → Option ImmKind
