@@ -1,11 +1,9 @@
 -- What the instructions inside the regions of a run write, whatever the regions declare.
-use Rattle.std.specs.Prelude.{ℕ, zero, suc, ◌==◌, ◌&&◌, ◌||◌, Bool, true, false, List, [], Some, None}
+use Rattle.std.specs.Prelude.{ℕ, zero, suc, ◌==◌, ◌&&◌, ◌||◌, Bool, true, false, List, [], Some}
 use Rattle.flow_base.specs.declared.points.Slot.{Slot}
-use Rattle.flow_base.specs.declared.points.Slot.TheVariants.{First as FirstSlot, Second as SecondSlot, Address, Result}
-use Rattle.flow_base.specs.declared.points.Slot.TheVariants.{Decision, Number, Arg0, Arg1, Arg2, SecretIn, ByteOut}
-use Rattle.flow_base.specs.declared.points.Slot.TheVariants.{Status, OutReg, OutRange}
+use Rattle.flow_base.specs.declared.points.Slot.TheVariants.{Number}
 use Rattle.rv32im_machine.specs.declared.language.Place.{Place as MachinePlace}
-use Rattle.rv32im_machine.specs.declared.language.Place.TheVariants.{Register, Byte as MachineByte, First, Second}
+use Rattle.rv32im_machine.specs.declared.language.Place.TheVariants.{Register, Byte as MachineByte}
 use Rattle.rv32im_machine.specs.declared.language.Aim.{Aim}
 use Rattle.rv32im_machine.specs.declared.language.Aim.TheVariants.{Put, Decide, Give}
 use Rattle.rv32im_machine.specs.State.{State}
@@ -45,13 +43,8 @@ some_turn test regions (suc turns) start = some_turn test regions turns start ||
 
 abbrev pub is_written_place : Place → MachinePlace → Bool
 is_written_place (Reg register) (Register other) = other == register
-is_written_place (Reg register) (MachineByte other) = false
-is_written_place (Reg register) First = false
-is_written_place (Reg register) Second = false
-is_written_place (Byte address) (Register other) = false
 is_written_place (Byte address) (MachineByte other) = other == address
-is_written_place (Byte address) First = false
-is_written_place (Byte address) Second = false
+is_written_place place other = false
 
 abbrev pub puts_into : Place → Aim → Bool
 puts_into place (Put other) = is_written_place place other
@@ -69,10 +62,8 @@ walk_writes place (Ended state) = false
 
 -- the turn is an instruction inside the region with a number
 abbrev pub is_step_in : ℕ → Kind → Bool
-is_step_in number (Enters region) = false
-is_step_in number (Leaves region) = false
-is_step_in number (Steps None) = false
 is_step_in number (Steps (Some region)) = region.id == number
+is_step_in number kind = false
 
 -- the turn of a state is an instruction inside the region with a number and writes to a place
 abbrev pub writes_in : List Region → ℕ → Place → State → Bool
@@ -105,19 +96,7 @@ Changed run number register = some_turn (leaves_changed run.regions number regis
 -- a call passes its number first
 abbrev pub is_number_slot : Slot → Bool
 is_number_slot Number = true
-is_number_slot FirstSlot = false
-is_number_slot SecondSlot = false
-is_number_slot Address = false
-is_number_slot Result = false
-is_number_slot Decision = false
-is_number_slot Arg0 = false
-is_number_slot Arg1 = false
-is_number_slot Arg2 = false
-is_number_slot SecretIn = false
-is_number_slot ByteOut = false
-is_number_slot Status = false
-is_number_slot (OutReg register) = false
-is_number_slot (OutRange range) = false
+is_number_slot slot = false
 
 -- a turn in which every value goes on as it is is a call
 unfoldable pub walk_calls : Walk → Bool
