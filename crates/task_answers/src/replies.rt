@@ -1,4 +1,4 @@
-ghost use Rattle.std.specs.Prelude.{◌≡◌, ◌≢◌, IfOk, Err};
+ghost use Rattle.std.specs.Prelude.{◌≡◌, ◌≢◌, IfOk, IsErr, OnErr, Err};
 ghost use Rattle.command_tasks.specs.declared.statuses.Status.TheVariants.{Done};
 ghost use Rattle.command_tasks.specs.declared.refusals.Refusal.TheVariants.{Memory};
 ghost use Rattle.task_answers.specs.Answers.{told};
@@ -28,9 +28,11 @@ impl Reply {
     }
 }
 
-/// The reply that an answer is told by: a refusal by its line. Out of memory there is none.
+/// The reply that an answer is told by: a refusal by its line. Out of memory there is none; an answer that is a reply
+/// takes none.
 pub fn reply_of(alloc: Global, answer: Result<Reply, Refusal>) -> Result<Reply, NoMemory>
-    ensures { IfOk result (λ reply. (answer ≢ Err Memory) × (reply ≡ told answer)) }
+    ensures told { IfOk result (λ reply. (answer ≢ Err Memory) × (reply ≡ told answer)) }
+    ensures memory { OnErr result (IsErr answer) }
 {
     match answer {
         Ok(reply) => Ok(reply),
