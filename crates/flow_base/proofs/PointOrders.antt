@@ -5,7 +5,8 @@ use Rattle.std.specs.Cmp.{IsTotalOrder}
 use Rattle.std.specs.Ordering.{is_eq, is_lt, ordering_then, ordering_reverse, nat_cmp}
 use Rattle.std.specs.declared.cmp.Ordering.{Ordering}
 use Rattle.std.specs.declared.cmp.Ordering.TheVariants.{Less, Equal, Greater}
-use Rattle.std.proofs.lemmas.Bool.{and_parts, cases_Bool, cases_order, cond-false, cond-true, eq-eqb, leb-true, le-ltb, lt-ltb, ne_eqb}
+use Rattle.std.proofs.lemmas.Bool.{and_parts, cases_Bool, cases_order, cond-false, cond-true, eq-eqb, leb-true, le-ltb}
+use Rattle.std.proofs.lemmas.Bool.{lt-ltb, ne_eqb}
 use Rattle.std.proofs.lemmas.Cmp.{tied_itself}
 use Rattle.flow_base.specs.declared.points.Point.{Point}
 use Rattle.flow_base.specs.declared.points.Slot.{Slot}
@@ -117,13 +118,17 @@ nat_more n m more = cond-false (nat_lt n m) Less _ (le-ltb n m (omega arith))
 
 shifted : (k n m : ℕ) → nat_cmp n m ≡ nat_cmp (k + n) (k + m)
 shifted k n m = elim (cases_order n m) [
-  | inl same ↦ ap (λ i. nat_cmp n i) (sym same) ∙ (nat_same n ∙ (sym (nat_same (k + n)) ∙ ap (λ i. nat_cmp (k + n) (k + i)) same))
+  | inl same ↦
+      ap (λ i. nat_cmp n i) (sym same)
+      ∙ (nat_same n ∙ (sym (nat_same (k + n)) ∙ ap (λ i. nat_cmp (k + n) (k + i)) same))
   | inr (inl less) ↦ nat_less n m less ∙ sym (nat_less (k + n) (k + m) (omega (arith, less)))
   | inr (inr more) ↦ nat_more n m more ∙ sym (nat_more (k + n) (k + m) (omega (arith, more)))
 ]
   where
     nat_same : (n : ℕ) → nat_cmp n n ≡ Equal
-    nat_same n = cond-false (nat_lt n n) Less _ (le-ltb n n (omega arith)) ∙ cond-true (nat_eq n n) Equal Greater (eq-eqb n n refl)
+    nat_same n =
+        cond-false (nat_lt n n) Less _ (le-ltb n n (omega arith))
+        ∙ cond-true (nat_eq n n) Equal Greater (eq-eqb n n refl)
 
 -- the numbers of registers come after all others, those of ranges after these
 first_register : (register : ℕ) → is_slot (OutReg register) ≡ true → 1 ≤ register
