@@ -4,3 +4,4 @@ pub mod Memories
 pub mod Pages
 pub mod Steps
 pub mod Standings
+pub mod Spreading

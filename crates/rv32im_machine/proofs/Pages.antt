@@ -64,32 +64,32 @@ laid_untouched touched bytes new at from count low high pages fits zero = λ ind
 -- ---- a page
 
 -- zeros leave a 0 as it is
-zeroed_stays : (bytes : List ℕ) (from end index : ℕ) → from ≤ end → end ≤ length bytes
-    → slice_index bytes index ≡ 0 → slice_index (laid_at from (zeros (end - from)) bytes) index ≡ 0
-zeroed_stays bytes from end index order fits zero =
-    let size : length (zeros (end - from)) ≡ end - from = zeros_length (end - from) in
+zeroed_stays : (bytes : List ℕ) (from count index : ℕ) → from + count ≤ length bytes
+    → slice_index bytes index ≡ 0 → slice_index (laid_at from (zeros count) bytes) index ≡ 0
+zeroed_stays bytes from count index fits zero =
+    let size : length (zeros count) ≡ count = zeros_length count in
     elim (cases_lt index from) [
-      | inl below ↦ laid_at_below from (zeros (end - from)) bytes index 0 (omega arith) below ∙ zero
-      | inr above ↦ elim (cases_lt index end) [
-        | inl within ↦ laid_at_within from (zeros (end - from)) bytes index 0 (omega arith) (omega arith) (omega arith)
-            ∙ zeros_byte (end - from) (index - from)
-        | inr past ↦ laid_at_above from (zeros (end - from)) bytes index 0 (omega arith) (omega arith) ∙ zero
+      | inl below ↦ laid_at_below from (zeros count) bytes index 0 (omega arith) below ∙ zero
+      | inr above ↦ elim (cases_lt index (from + count)) [
+        | inl within ↦ laid_at_within from (zeros count) bytes index 0 (omega arith) (omega arith) (omega arith)
+            ∙ zeros_byte count (index - from)
+        | inr past ↦ laid_at_above from (zeros count) bytes index 0 (omega arith) (omega arith) ∙ zero
       ]
     ]
 
-pub zeroed_untouched : (touched : List Bool) (bytes : List ℕ) (from end : ℕ) → from ≤ end → end ≤ length bytes
-    → AreZeroUntouched touched bytes → AreZeroUntouched touched (laid_at from (zeros (end - from)) bytes)
-zeroed_untouched touched bytes from end order fits zero = λ index untouched.
-    zeroed_stays bytes from end index order fits (zero index untouched)
+pub zeroed_untouched : (touched : List Bool) (bytes : List ℕ) (from count : ℕ) → from + count ≤ length bytes
+    → AreZeroUntouched touched bytes → AreZeroUntouched touched (laid_at from (zeros count) bytes)
+zeroed_untouched touched bytes from count fits zero = λ index untouched.
+    zeroed_stays bytes from count index fits (zero index untouched)
 
-pub zeroed_below : (bytes : List ℕ) (from end : ℕ) → from ≤ end → end ≤ length bytes → AreZeroBelow from bytes
-    → AreZeroBelow end (laid_at from (zeros (end - from)) bytes)
-zeroed_below bytes from end order fits zero = λ index below.
-    let size : length (zeros (end - from)) ≡ end - from = zeros_length (end - from) in
-    elim (cases_lt index from) [
-      | inl before ↦ zeroed_stays bytes from end index order fits (zero index before)
-      | inr above ↦ laid_at_within from (zeros (end - from)) bytes index 0 (omega arith) (omega arith) (omega arith)
-          ∙ zeros_byte (end - from) (index - from)
+pub zeroed_below : (bytes : List ℕ) (page : ℕ) → (page + 1) * 4096 ≤ length bytes → AreZeroBelow (page * 4096) bytes
+    → AreZeroBelow ((page + 1) * 4096) (laid_at (page * 4096) (zeros 4096) bytes)
+zeroed_below bytes page fits zero = λ index below.
+    let size : length (zeros 4096) ≡ 4096 = zeros_length 4096 in
+    elim (cases_lt index (page * 4096)) [
+      | inl before ↦ zeroed_stays bytes (page * 4096) 4096 index (omega arith) (zero index before)
+      | inr above ↦ laid_at_within (page * 4096) (zeros 4096) bytes index 0 (omega arith) (omega arith) (omega arith)
+          ∙ zeros_byte 4096 (index - page * 4096)
     ]
 
 -- a page that is not touched is 0

@@ -1,21 +1,16 @@
-ghost use Rattle.std.specs.Prelude.{◌≡◌, ℕ, ◌+◌, ◌-◌, ◌*◌, ◌/◌, ◌%◌, ◌<◌, ◌≤◌, ◌==◌, IfOk, false, if◌then◌else◌, length, replicate, slice_index, slice_set, true, vec_len};
+ghost use Rattle.std.specs.Prelude.{◌≡◌, ℕ, ◌+◌, ◌-◌, ◌*◌, ◌/◌, ◌%◌, ◌<◌, ◌≤◌, ◌==◌, IfOk, [], ◌∷◌, false, if◌then◌else◌, length, replicate, slice_index, slice_set, true, vec_len};
 ghost use Rattle.flow_base.specs.Guests.{memory_size};
 ghost use Rattle.rv32im_machine.specs.Pages.{AreZeroBelow, AreZeroUntouched};
 ghost use Rattle.rv32im_machine.specs.Standing.{piece_size};
 ghost use Rattle.rv32im_machine.specs.Start.{zeros, laid_at};
 
-use flow_base::{MEMORY_SIZE, NoMemory};
+use crate::sparse_bytes::{PAGE_SIZE, PIECE_SIZE, SparseBytes};
+use flow_base::NoMemory;
 use std::alloc::Global;
 use std::marker::Model;
 
-/// The bytes of a page.
-const PAGE_SIZE: usize = 4096;
-
 /// The pages of guest memory.
 const PAGES: usize = 4096;
-
-/// The bytes of a piece of guest memory.
-pub const PIECE_SIZE: usize = 256;
 
 /// The pieces of guest memory.
 pub const PIECES: usize = 65_536;
@@ -24,30 +19,21 @@ pub const PIECES: usize = 65_536;
 /// so a run can begin on the memory of another run for the price of the pages that the other has written.
 #[derive(Drop)]
 pub struct GuestMemory {
-    bytes: Vec<u8>,
+    bytes: SparseBytes,
     touched: Vec<bool>,
 }
 
 impl Model for GuestMemory {
-    ghost use Rattle.std.specs.Prelude.{◌≡◌, ℕ, List, vec_len};
+    ghost use Rattle.std.specs.Prelude.{◌≡◌, ℕ, List, length, vec_len};
     ghost use Rattle.flow_base.specs.Guests.{memory_size};
     ghost use Rattle.rv32im_machine.specs.Pages.{AreZeroUntouched};
 
     ghost Value = { List ℕ };
 
-    ghost view = { λ m. m.bytes.items };
+    ghost view = { λ m. m.bytes };
 
-    ghost invariant = { λ m. (vec_len m.bytes ≡ memory_size) × (vec_len m.touched ≡ 4096)
-        × AreZeroUntouched m.touched.items m.bytes.items };
-}
-
-/// So many zeros.
-#[tactic(auto, unfolding(crate::specs::Start::zeros))]
-fn zeroed(alloc: Global, count: usize) -> Result<Vec<u8>, NoMemory>
-    ensures zeros { IfOk result (λ bytes. bytes.items ≡ zeros count) }
-    ensures length { IfOk result (λ bytes. vec_len bytes ≡ count) }
-{
-    Ok(vec![in alloc; 0; count]?)
+    ghost invariant = { λ m. (length m.bytes ≡ memory_size) × (vec_len m.touched ≡ 4096)
+        × AreZeroUntouched m.touched.items m.bytes };
 }
 
 /// So many pages that are not touched.
@@ -67,51 +53,31 @@ fn touch(touched: &mut Vec<bool>, from: usize, end: usize)
     touched[from..end].fill(true);
 }
 
-/// Lays bytes over others from an index on.
-fn lay_over(under: &mut Vec<u8>, index: usize, bytes: &[u8])
-    requires { index + length bytes.now ≤ vec_len under.old }
-    ensures laid { under.new.items ≡ laid_at index bytes.now under.old.items }
-    ensures length { vec_len under.new ≡ vec_len under.old }
-{
-    under[index..index + bytes.len()].copy_from_slice(bytes);
-}
-
-/// Zeroes bytes from an index on, up to another.
-#[tactic(auto, unfolding(crate::specs::Start::zeros))]
-fn zero(bytes: &mut Vec<u8>, from: usize, end: usize)
-    requires low { from ≤ end }
-    requires high { end ≤ vec_len bytes.old }
-    ensures zeros { bytes.new.items ≡ laid_at from (zeros (end - from)) bytes.old.items }
-    ensures length { vec_len bytes.new ≡ vec_len bytes.old }
-{
-    bytes[from..end].fill(0);
-}
-
 /// Zeroes a page where it is touched, once the pages below it are 0.
 #[tactic(auto, using(crate::proofs::Pages::zeroed_untouched, crate::proofs::Pages::zeroed_below, crate::proofs::Pages::passed_below))]
-fn zero_page(bytes: &mut Vec<u8>, touched: &[bool], page: usize)
+fn zero_page(bytes: &mut SparseBytes, touched: &[bool], page: usize)
     requires page { page < 4096 }
-    requires length { vec_len bytes.old ≡ memory_size }
+    requires length { length bytes.old ≡ memory_size }
     requires pages { length touched.now ≡ 4096 }
-    requires untouched { AreZeroUntouched touched.now bytes.old.items }
-    requires below { AreZeroBelow (page * 4096) bytes.old.items }
-    ensures untouched { AreZeroUntouched touched.now bytes.new.items }
-    ensures below { AreZeroBelow ((page + 1) * 4096) bytes.new.items }
-    ensures length { vec_len bytes.new ≡ vec_len bytes.old }
+    requires untouched { AreZeroUntouched touched.now bytes.old }
+    requires below { AreZeroBelow (page * 4096) bytes.old }
+    ensures untouched { AreZeroUntouched touched.now bytes.new }
+    ensures below { AreZeroBelow ((page + 1) * 4096) bytes.new }
+    ensures length { length bytes.new ≡ length bytes.old }
 {
     if touched[page] {
-        zero(bytes, page * PAGE_SIZE, (page + 1) * PAGE_SIZE);
+        bytes.zero_page(page);
     }
 }
 
 /// Zeroes the pages that are touched.
 #[tactic(auto, using(crate::proofs::Pages::all_zeros))]
-fn zero_touched(bytes: &mut Vec<u8>, touched: &[bool])
-    requires length { vec_len bytes.old ≡ memory_size }
+fn zero_touched(bytes: &mut SparseBytes, touched: &[bool])
+    requires length { length bytes.old ≡ memory_size }
     requires pages { length touched.now ≡ 4096 }
-    requires untouched { AreZeroUntouched touched.now bytes.old.items }
-    ensures zeros { bytes.new.items ≡ zeros memory_size }
-    ensures length { vec_len bytes.new ≡ vec_len bytes.old }
+    requires untouched { AreZeroUntouched touched.now bytes.old }
+    ensures zeros { bytes.new ≡ zeros memory_size }
+    ensures length { length bytes.new ≡ length bytes.old }
 {
     for page in 0..PAGES {
         zero_page(bytes, touched, page);
@@ -120,11 +86,11 @@ fn zero_touched(bytes: &mut Vec<u8>, touched: &[bool])
 
 impl GuestMemory {
     /// Guest memory whose bytes are 0. `NoMemory` where there is not enough; no later call takes memory.
-    #[tactic(auto, using(crate::proofs::Pages::zeros_untouched))]
+    #[tactic(auto, using(crate::proofs::Pages::zeros_untouched, crate::proofs::Laying::zeros_length))]
     pub fn new(alloc: Global) -> Result<GuestMemory, NoMemory>
         ensures { IfOk result (λ memory. memory ≡ zeros memory_size) }
     {
-        let bytes = zeroed(alloc, MEMORY_SIZE as usize)?;
+        let bytes = SparseBytes::new(alloc)?;
         let touched = untouched(alloc, PAGES)?;
         Ok(GuestMemory { bytes, touched })
     }
@@ -135,7 +101,17 @@ impl GuestMemory {
         requires { index < memory_size }
         ensures { result ≡ slice_index self.now index }
     {
-        self.bytes[index]
+        self.bytes.byte(index)
+    }
+
+    /// The four bytes from an index on.
+    #[inline(always)]
+    pub(crate) fn four(&self, index: usize) -> [u8; 4]
+        requires { index + 4 ≤ memory_size }
+        ensures { result ≡ slice_index self.now index ∷ slice_index self.now (index + 1)
+            ∷ slice_index self.now (index + 2) ∷ slice_index self.now (index + 3) ∷ [] }
+    {
+        self.bytes.four(index)
     }
 
     /// Sets the byte with this index.
@@ -145,7 +121,7 @@ impl GuestMemory {
         requires { index < memory_size }
         ensures { self.new ≡ slice_set self.old index value }
     {
-        self.bytes[index] = value;
+        self.bytes.set(index, value);
         self.touched[index / PAGE_SIZE] = true;
     }
 
@@ -156,7 +132,7 @@ impl GuestMemory {
         ensures { self.new ≡ laid_at index bytes.now self.old }
     {
         let end = index + bytes.len();
-        lay_over(&mut self.bytes, index, bytes);
+        self.bytes.lay(index, bytes);
         touch(
             &mut self.touched,
             index / PAGE_SIZE,
@@ -165,7 +141,7 @@ impl GuestMemory {
     }
 
     /// Zeroes every byte, in the time of the pages that are touched.
-    #[tactic(auto, using(crate::proofs::Pages::zeros_untouched))]
+    #[tactic(auto, using(crate::proofs::Pages::zeros_untouched, crate::proofs::Laying::zeros_length))]
     pub(crate) fn clear(&mut self)
         ensures { self.new ≡ zeros memory_size }
     {
@@ -177,7 +153,7 @@ impl GuestMemory {
     pub(crate) fn tell_length(&self)
         ensures { length self.now ≡ memory_size }
     {
-        let _ = &self.bytes;
+        self.bytes.tell_length();
     }
 
     /// Whether a page of 4,096 bytes, 0 to 4,095, was touched since all bytes were 0; the bytes of one that was not are
@@ -190,14 +166,13 @@ impl GuestMemory {
     }
 
     /// The bytes of a piece, 0 to 65,535.
-    #[tactic(auto, using(crate::proofs::Standings::piece_byte))]
     pub(crate) fn piece(&self, number: usize) -> &[u8]
         requires { number < 65536 }
         ensures bytes { (offset : ℕ) → offset < piece_size →
             slice_index result.now offset ≡ slice_index self.now (number * piece_size + offset) }
         ensures length { length result.now ≡ piece_size }
     {
-        &self.bytes[number * PIECE_SIZE..(number + 1) * PIECE_SIZE]
+        self.bytes.piece(number)
     }
 
     /// Sets the bytes of a piece, 0 to 65,535.

@@ -235,12 +235,7 @@ impl Machine {
         ensures { result ≡ word_at self.now.setting.base self.now.store address }
     {
         let index = (address - self.base) as usize;
-        u32::from_le_bytes([
-            self.memory.byte(index),
-            self.memory.byte(index + 1),
-            self.memory.byte(index + 2),
-            self.memory.byte(index + 3),
-        ])
+        u32::from_le_bytes(self.memory.four(index))
     }
 
     /// Sets a register, 0 to 31; a write to register 0 changes nothing.
