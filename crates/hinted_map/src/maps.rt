@@ -13,7 +13,8 @@ use std::hash::Hash;
 /// Values by keys, in the order in which the keys came. Keys are the same where their order says so.
 ///
 /// A run asks for much the same keys in much the same order again and again. So a key is first looked for where the
-/// latest one stands, after it, and where another one stood before it, and by its hash only then.
+/// latest one stands and after it, where the one before was found first, then where another one stood before it, and by
+/// its hash only then.
 #[derive(Drop)]
 pub struct HintedMap<K: Ord + Hash, V> {
     pub map: IndexMap<K, V>,
@@ -21,6 +22,8 @@ pub struct HintedMap<K: Ord + Hash, V> {
     pub latest: usize,
     /// Where another one did before it.
     pub before: usize,
+    /// Whether the latest key that was noted was another one than the key before it.
+    pub moves: bool,
 }
 
 impl<K: Ord + Hash, V> HintedMap<K, V> {
@@ -32,6 +35,7 @@ impl<K: Ord + Hash, V> HintedMap<K, V> {
             map: IndexMap::new(alloc),
             latest: 0,
             before: 0,
+            moves: true,
         }
     }
 
@@ -89,10 +93,15 @@ impl<K: Ord + Hash, V> HintedMap<K, V> {
         ensures none { IfNone result (lookup (eq_by_cmp K.cmp key.now) self.now.map.entries ≡ None) }
     {
         let behind = self.latest.wrapping_add(1);
-        if self.stands_at(self.latest, key) {
-            Some(self.latest)
-        } else if self.stands_at(behind, key) {
-            Some(behind)
+        let (first, second) = if self.moves {
+            (behind, self.latest)
+        } else {
+            (self.latest, behind)
+        };
+        if self.stands_at(first, key) {
+            Some(first)
+        } else if self.stands_at(second, key) {
+            Some(second)
         } else {
             self.find_from(self.before, key)
         }
@@ -122,7 +131,8 @@ impl<K: Ord + Hash, V> HintedMap<K, V> {
         ensures latest { self.new.latest ≡ index }
         ensures before { self.new.before ≡ cond (index == self.old.latest) self.old.before self.old.latest }
     {
-        if index != self.latest {
+        self.moves = index != self.latest;
+        if self.moves {
             self.before = self.latest;
             self.latest = index;
         }

@@ -99,10 +99,7 @@ impl Collapse {
         match event {
             Event::Pass { point, mask } => self.pass(point, mask),
             Event::Link { source, target } => {
-                if self.links.is_latest_flow(&source, &target) {
-                    return Ok(());
-                }
-                if self.links.follows_flow(&source, &target) {
+                if self.links.is_flow_again(&source, &target) {
                     return Ok(());
                 }
                 self.put(NamedLink {

@@ -87,6 +87,25 @@ impl KeptLinks {
         true
     }
 
+    /// Whether the link from a point to a point is the latest one of its kind or stands after the one that was found
+    /// latest, and so has occurred. What the link before was is looked at first. The links stay.
+    #[inline(always)]
+    pub fn is_flow_again(&mut self, source: &Point, target: &Point) -> bool
+        ensures known { OnTrue result (has_flow (keys_of self.old.named.map.entries) source.now target.now ≡ true) }
+        ensures map { self.new.named.map ≡ self.old.named.map }
+        ensures flow { self.new.flow ≡ self.old.flow }
+        ensures output { self.new.output ≡ self.old.output }
+    {
+        if self.named.moves && self.follows_flow(source, target) {
+            return true;
+        }
+        if self.is_latest_flow(source, target) {
+            self.named.moves = false;
+            return true;
+        }
+        !self.named.moves && self.follows_flow(source, target)
+    }
+
     /// Whether the link from the relay of a region to a point is the latest one of its kind, and so has occurred.
     #[inline(always)]
     pub fn is_latest_output(&self, region: u16, point: &Point) -> bool

@@ -16,17 +16,11 @@ returns-then-region-eq0-clause-ok c = λ events stands.
     rw c.in-Out.is (no_output c.args.self.now.points.capacities.map.entries (keys_of c.args.self.now.links.named.map.entries) c.in-Out.region
     c.in-Out.point events c.if-region-eq0.true stands)
 
-pub returns-then-is_latest_flow-clause-ok : goal.returns-then-is_latest_flow-clause-ok
-returns-then-is_latest_flow-clause-ok c = λ events stands.
-    rw c.in-Link.is (known_link c.args.self.now.points.capacities.map.entries (keys_of c.args.self.now.links.named.map.entries) _ _ events
+pub returns-then-is_flow_again-clause-ok : goal.returns-then-is_flow_again-clause-ok
+returns-then-is_flow_again-clause-ok c = λ events stands.
+    rw (c.in-Link.is, c.is_flow_again.ensures.map) (known_link c.args.self.now.points.capacities.map.entries (keys_of c.args.self.now.links.named.map.entries) _ _ events
     (makes_link (knows c.args.self.now) c.in-Link.source c.in-Link.target)
-    (OnTrue_at c.if-is_latest_flow.true c.is_latest_flow.ensures.known) stands)
-
-pub returns-then-follows_flow-clause-ok : goal.returns-then-follows_flow-clause-ok
-returns-then-follows_flow-clause-ok c = λ events stands.
-    rw (c.in-Link.is, c.follows_flow.ensures.map) (known_link c.args.self.now.points.capacities.map.entries (keys_of c.args.self.now.links.named.map.entries) _ _ events
-    (makes_link (knows c.args.self.now) c.in-Link.source c.in-Link.target)
-    (OnTrue_at c.if-follows_flow.true c.follows_flow.ensures.known) stands)
+    (OnTrue_at c.if-is_flow_again.true c.is_flow_again.ensures.known) stands)
 
 pub returns-then-is_latest_output-clause-ok : goal.returns-then-is_latest_output-clause-ok
 returns-then-is_latest_output-clause-ok c = λ events stands.
@@ -37,12 +31,12 @@ returns-then-is_latest_output-clause-ok c = λ events stands.
 pub returns-in-Pass-clause-ok : goal.returns-in-Pass-clause-ok
 returns-in-Pass-clause-ok c = rw c.in-Pass.is c.pass.ensures.ok
 
-pub returns-else-follows_flow-clause-ok : goal.returns-else-follows_flow-clause-ok
-returns-else-follows_flow-clause-ok c =
+pub returns-else-is_flow_again-clause-ok : goal.returns-else-is_flow_again-clause-ok
+returns-else-is_flow_again-clause-ok c =
     rw c.in-Link.is
     (on_ok_weaker c.put.result (λ ok events stands. ok _ events (makes_link (knows c.args.self.now) c.in-Link.source
     c.in-Link.target) (subst (λ map. Keeps c.args.self.now.points.capacities.map.entries (keys_of map.entries) events)
-    (sym c.follows_flow.ensures.map) stands)) c.put.ensures.ok)
+    (sym c.is_flow_again.ensures.map) stands)) c.put.ensures.ok)
 
 pub returns-in-FromSecret-clause-ok : goal.returns-in-FromSecret-clause-ok
 returns-in-FromSecret-clause-ok c =
@@ -65,12 +59,12 @@ returns-else-is_latest_output-clause-ok c =
 pub returns-in-Pass-clause-limit : goal.returns-in-Pass-clause-limit
 returns-in-Pass-clause-limit c = rw c.in-Pass.is c.pass.ensures.limit
 
-pub returns-else-follows_flow-clause-limit : goal.returns-else-follows_flow-clause-limit
-returns-else-follows_flow-clause-limit c =
+pub returns-else-is_flow_again-clause-limit : goal.returns-else-is_flow_again-clause-limit
+returns-else-is_flow_again-clause-limit c =
     rw c.in-Link.is
     (λ full events stands. c.put.ensures.limit full _ events (makes_link (knows c.args.self.now) c.in-Link.source
     c.in-Link.target) (subst (λ map. Keeps c.args.self.now.points.capacities.map.entries (keys_of map.entries) events)
-    (sym c.follows_flow.ensures.map) stands))
+    (sym c.is_flow_again.ensures.map) stands))
 
 pub returns-in-FromSecret-clause-limit : goal.returns-in-FromSecret-clause-limit
 returns-in-FromSecret-clause-limit c =
@@ -93,15 +87,15 @@ returns-else-is_latest_output-clause-limit c =
 pub returns-in-Pass-clause-memory : goal.returns-in-Pass-clause-memory
 returns-in-Pass-clause-memory c = rw c.in-Pass.is c.pass.ensures.memory
 
-pub returns-else-follows_flow-clause-memory : goal.returns-else-follows_flow-clause-memory
-returns-else-follows_flow-clause-memory c =
+pub returns-else-is_flow_again-clause-memory : goal.returns-else-is_flow_again-clause-memory
+returns-else-is_flow_again-clause-memory c =
     rw c.in-Link.is
     (λ e. record {
       new = subst (λ map. is_among (keys_of map.entries) (record {
         source = At c.in-Link.source;
         target = At
             c.in-Link.target;
-      }) ≡ false) c.follows_flow.ensures.map (c.put.ensures.memory e).new;
+      }) ≡ false) c.is_flow_again.ensures.map (c.put.ensures.memory e).new;
       ends = (c.put.ensures.memory e).ends;
     })
 
