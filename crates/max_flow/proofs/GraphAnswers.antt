@@ -102,7 +102,7 @@ greatest_from graph value places side capacity points links flow =
 -- all of a least side is in another side, whose nodes these are
 part_from : (graph : Graph) (places : List ℕ) (halves others : List Half) (answers passed : List Bool) →
     IsMade graph places halves answers → length halves ≡ length graph.points →
-    length places ≡ 2 + 2 * length graph.points + 65536 →
+    length places ≤ 2 + 2 * length graph.points + 65536 →
     ((v : ℕ) → v < (network_of graph).nodes → is_found places v ≡ true → member graph others passed v ≡ true) →
     IsPartOf graph halves answers others passed
 part_from graph places halves others answers passed made points_count places_count all =
@@ -153,7 +153,7 @@ capacity_from graph value places halves answers made points_count capacity =
 pub least_from : (graph : Graph) (value : ℕ) (flows places : List ℕ) (halves : List Half) (answers : List Bool) →
     IsFlow (network_of graph) flows →
     source_flow (network_of graph) flows ≡ value → IsMade graph places halves answers → length halves ≡ length
-    graph.points → length answers ≡ length graph.relays → length places ≡ 2 + 2 * length graph.points + 65536 →
+    graph.points → length answers ≡ length graph.relays → length places ≤ 2 + 2 * length graph.points + 65536 →
     IsSide (network_of graph) (is_found places) → capacity_of (network_of graph) (is_found places) ≡ value →
     IsLeast (network_of graph) value (is_found places) →
     Least graph halves answers

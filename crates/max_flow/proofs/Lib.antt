@@ -16,3 +16,4 @@ pub mod SmallSides
 pub mod LastNodeTakenOut
 pub mod Balances
 pub mod IdleNodes
+pub mod FewRelays

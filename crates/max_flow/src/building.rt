@@ -1,7 +1,7 @@
 ghost use Rattle.std.specs.Prelude.{◌≡◌, ◌+◌, ◌*◌, ◌^◌, ◌<◌, ◌≤◌, ◌++◌, map, length, IfOk, OnOk, IsTrue};
 ghost use Rattle.std.specs.List.{list_all};
 ghost use Rattle.max_flow.specs.Flows.{IsWithinLimits, is_small};
-ghost use Rattle.max_flow.specs.Private.GraphNetworks.{halves_from, network_of};
+ghost use Rattle.max_flow.specs.Private.GraphNetworks.{halves_from, network_of, relay_room, small_network_of};
 ghost use Rattle.max_flow.specs.NodeNumbers.{head_of, tail_of};
 ghost use Rattle.max_flow.specs.Private.Rooms.{AreFew};
 ghost use Rattle.max_flow.specs.Private.Solving.{net_of, IsNetwork};
@@ -104,13 +104,37 @@ fn limits_of(alloc: Global, points: &[Node]) -> Result<List<u64>, NoMemory>
     Ok(limits)
 }
 
-/// The network of a graph.
+/// One more than the highest relay; 0 where there is none.
+fn relays_room(relays: &[u16]) -> usize
+    ensures room { result ≡ relay_room relays.now }
+    ensures few { result ≤ 65536 }
+{
+    let mut room = 0;
+    let mut rest = relays;
+    while let [region, more @ ..] = rest {
+        room = (*region as usize + 1).max(room);
+        rest = more;
+    }
+    room
+}
+
+/// The number of nodes of a graph, up to the highest relay.
+fn node_count(graph: &Graph) -> usize
+    requires { length graph.now.points ≤ 65536 }
+    ensures count { result ≡ 2 + 2 * length graph.now.points + relay_room graph.now.relays }
+    ensures few { result ≤ 2 + 2 * length graph.now.points + 65536 }
+{
+    2 + 2 * graph.points.len() + relays_room(graph.relays.as_slice())
+}
+
+/// The network of a graph, whose nodes end with the highest relay: a graph of few relays has few nodes.
 pub fn network(alloc: Global, graph: &Graph) -> Result<Network, NoMemory>
     requires { IsWithinLimits graph.now }
-    ensures net { IfOk result (λ network. net_of network ≡ network_of graph.now) }
+    ensures net { IfOk result (λ network. net_of network ≡ small_network_of graph.now) }
     ensures network { IfOk result (λ network. IsNetwork network) }
+    ensures few { IfOk result (λ network. network.nodes ≤ 2 + 2 * length graph.now.points + 65536) }
 {
-    let nodes = 2 + 2 * graph.points.len() + 65_536;
+    let nodes = node_count(graph);
     let limits = limits_of(alloc, graph.points.as_slice())?;
     let ends = ends_of(alloc, graph)?;
     let leaving = chains_of(alloc, ends.tails.as_slice(), nodes)?;

@@ -1,5 +1,6 @@
 ghost use Rattle.std.specs.Prelude.{◌≡◌, ◌+◌, ◌*◌, ◌≤◌, map, length, IfOk, take, drop};
 ghost use Rattle.max_flow.specs.Flows.{has_first, has_second};
+ghost use Rattle.max_flow.specs.Private.GraphNetworks.{relay_room};
 ghost use Rattle.max_flow.specs.Private.Marks.{marks};
 ghost use Rattle.max_flow.specs.Private.Searching.{is_found};
 ghost use Rattle.max_flow.specs.Private.Marks.{found_marks};
@@ -38,13 +39,14 @@ fn found_halves(alloc: Global, places: &[u32], count: usize) -> Result<List<Half
 }
 
 /// For each relay whether it is found, where the relays' nodes begin at `start`.
+#[tactic(auto, using(crate::proofs::FewRelays::relay_within))]
 fn found_relays(
     alloc: Global,
     places: &[u32],
     start: usize,
     relays: &[u16],
 ) -> Result<List<bool>, NoMemory>
-    requires { start + 65536 ≤ length places.now }
+    requires { start + relay_room relays.now ≤ length places.now }
     ensures { IfOk result (λ found. found ≡ map (λ region. is_found places.now (start + region)) relays.now) }
 {
     let mut found = List::new(alloc);
@@ -57,7 +59,7 @@ fn found_relays(
 /// The side of what is found.
 pub fn side_of(alloc: Global, graph: &Graph, places: &[u32]) -> Result<Side, NoMemory>
     requires count { length graph.now.points ≤ 65536 }
-    requires places { length places.now ≡ 2 + 2 * length graph.now.points + 65536 }
+    requires places { length places.now ≡ 2 + 2 * length graph.now.points + relay_room graph.now.relays }
     ensures points_count { IfOk result (λ side. length side.points ≡ length graph.now.points) }
     ensures points { IfOk result (λ side. marks side.points ≡ found_marks places.now (length graph.now.points)) }
     ensures relays { IfOk result (λ side. side.relays

@@ -1,6 +1,7 @@
 use Rattle.std.proofs.Common.{◌≡◌, ◌+◌, ◌∙◌, length, refl, arith}
 use Rattle.max_flow.specs.Private.GraphNetworks.{network_of}
 use Rattle.max_flow.proofs.Graphs.{edges_count, graph_net}
+use Rattle.max_flow.proofs.FewRelays.{small_net}
 use Rattle.max_flow.proofs.GraphAnswers.{limits_fit}
 use Rattle.max_flow.proofs.building.network.Goals as goal
 
@@ -21,13 +22,13 @@ chains_of-requires-2-clause-few c =
 
 pub chains_of-requires-clause-keys : goal.chains_of-requires-clause-keys
 chains_of-requires-clause-keys c =
-    rw (c.as_slice-2.ensures, c.in_ok-ends.ensures.tails, c.len.ensures) (graph_net c.args.graph.now).tails_inside
+    rw (c.as_slice-2.ensures, c.in_ok-ends.ensures.tails, c.node_count-nodes.ensures.count) (small_net c.args.graph.now).tails_inside
 
 pub chains_of-requires-2-clause-keys : goal.chains_of-requires-2-clause-keys
 chains_of-requires-2-clause-keys c =
     let same = (graph_net c.args.graph.now).same in
-    rw (c.as_slice-3.ensures, c.in_ok-ends.ensures.heads, c.len.ensures) (λ i below.
-    (graph_net c.args.graph.now).heads_inside i (omega (arith, same, below)))
+    rw (c.as_slice-3.ensures, c.in_ok-ends.ensures.heads, c.node_count-nodes.ensures.count) (λ i below.
+    (small_net c.args.graph.now).heads_inside i (omega (arith, same, below)))
 
 pub returns-clause-net : goal.returns-clause-net
 returns-clause-net c =
@@ -37,7 +38,7 @@ returns-clause-net c =
     c.into_vec-2.ensures ∙ c.in_ok-ends.ensures.heads in
     let limits : c.into_vec-3.result.items ≡ (network_of c.args.graph.now).limits =
     rw (c.into_vec-3.ensures, c.in_ok-limits.ensures, c.as_slice.ensures) refl in
-    rw (c.len.ensures, tails, heads, limits) refl
+    rw (c.node_count-nodes.ensures.count, tails, heads, limits) refl
 
 pub returns-clause-network : goal.returns-clause-network
 returns-clause-network c =
@@ -50,8 +51,8 @@ returns-clause-network c =
     let same : length (network_of c.args.graph.now).heads ≡ length (network_of c.args.graph.now).tails =
     (graph_net c.args.graph.now).same in
     record {
-      net = rw (c.len.ensures, tails, heads, limits) (graph_net c.args.graph.now);
-      nodes_few = omega (arith, c.len.ensures, c.requires.points);
+      net = rw (c.node_count-nodes.ensures.count, tails, heads, limits) (small_net c.args.graph.now);
+      nodes_few = omega (arith, c.node_count-nodes.ensures.few, c.requires.points);
       edges_few = rw tails (omega (arith, edges_count c.args.graph.now, c.requires.points, c.requires.links));
       fits = rw limits (limits_fit c.args.graph.now c.requires);
       leaving = rw c.into_vec.ensures (rw c.as_slice-2.ensures at c.in_ok-leaving.ensures);

@@ -1,44 +1,34 @@
-use Rattle.std.proofs.Common.{◌≡◌, length, sym, ap, ◌∙◌, subst}
+use Rattle.std.proofs.Common.{◌≡◌, length, ap, ◌∙◌}
 use Rattle.std.proofs.lemmas.List.{length-map}
 use Rattle.max_flow.specs.Private.Networks.{IsFlow, IsSide, source_flow, capacity_of}
-use Rattle.max_flow.specs.Private.Rooms.{HasSmallSide, IsLeast}
+use Rattle.max_flow.specs.Private.Rooms.{IsLeast}
 use Rattle.max_flow.specs.Private.GraphNetworks.{network_of}
 use Rattle.max_flow.specs.Private.Searching.{is_found}
-use Rattle.max_flow.specs.Private.Solving.{net_of}
-use Rattle.max_flow.proofs.SmallSides.{small_side}
 use Rattle.max_flow.proofs.FoundNodesAreMembers.{IsMade}
 use Rattle.max_flow.proofs.Graphs.{edges_count}
 use Rattle.max_flow.proofs.GraphAnswers.{back_most, capacity_from, flow_from, front_most, greatest_from, least_from}
 use Rattle.max_flow.proofs.GraphAnswers.{value_from}
 use Rattle.max_flow.proofs.solving.solve.Goals as goal
 
-pub solve_network-requires-clause-small : goal.solve_network-requires-clause-small
-solve_network-requires-clause-small c = subst HasSmallSide (sym c.in_ok-network.ensures.net)
-    (small_side c.args.graph.now c.requires)
-
 pub flow_of-requires : goal.flow_of-requires
 flow_of-requires c =
-    let e : net_of c.in_ok-network.network ≡ network_of c.args.graph.now = c.in_ok-network.ensures.net in
     let flow : IsFlow (network_of c.args.graph.now) c.in_ok-value.field-0.flows.items =
-    subst (λ n. IsFlow n c.in_ok-value.field-0.flows.items) e c.in_ok-value.ensures.flow in
+    c.in_ok-value.ensures.flow in
     flow.count ∙ edges_count c.args.graph.now
 
 pub returns-clause-flow : goal.returns-clause-flow
 returns-clause-flow c =
-    let e : net_of c.in_ok-network.network ≡ network_of c.args.graph.now = c.in_ok-network.ensures.net in
     let flow : IsFlow (network_of c.args.graph.now) c.in_ok-value.field-0.flows.items =
-    subst (λ n. IsFlow n c.in_ok-value.field-0.flows.items) e c.in_ok-value.ensures.flow in
+    c.in_ok-value.ensures.flow in
     flow_from c.args.graph.now c.in_ok-value.field-0.flows.items _ _ flow c.in_ok-flow.ensures.points
     c.in_ok-flow.ensures.links
 
 pub returns-clause-value : goal.returns-clause-value
 returns-clause-value c =
-    let e : net_of c.in_ok-network.network ≡ network_of c.args.graph.now = c.in_ok-network.ensures.net in
     let flow : IsFlow (network_of c.args.graph.now) c.in_ok-value.field-0.flows.items =
-    subst (λ n. IsFlow n c.in_ok-value.field-0.flows.items) e c.in_ok-value.ensures.flow in
+    c.in_ok-value.ensures.flow in
     let value : source_flow (network_of c.args.graph.now) c.in_ok-value.field-0.flows.items ≡ c.in_ok-value.field-0.value
-    = subst (λ n. source_flow n c.in_ok-value.field-0.flows.items ≡ c.in_ok-value.field-0.value) e
-    c.in_ok-value.ensures.value in
+    = c.in_ok-value.ensures.value in
     value_from c.args.graph.now c.in_ok-value.field-0.flows.items _ _ flow c.in_ok-flow.ensures.points
     c.in_ok-flow.ensures.links ∙ value
 
@@ -54,20 +44,16 @@ returns-clause-links c = back_most c.in_ok-value.field-0.value (length c.args.gr
 
 pub returns-clause-side : goal.returns-clause-side
 returns-clause-side c =
-    let e : net_of c.in_ok-network.network ≡ network_of c.args.graph.now = c.in_ok-network.ensures.net in
     let flow : IsFlow (network_of c.args.graph.now) c.in_ok-value.field-0.flows.items =
-    subst (λ n. IsFlow n c.in_ok-value.field-0.flows.items) e c.in_ok-value.ensures.flow in
+    c.in_ok-value.ensures.flow in
     let value : source_flow (network_of c.args.graph.now) c.in_ok-value.field-0.flows.items ≡ c.in_ok-value.field-0.value
-    = subst (λ n. source_flow n c.in_ok-value.field-0.flows.items ≡ c.in_ok-value.field-0.value) e
-    c.in_ok-value.ensures.value in
+    = c.in_ok-value.ensures.value in
     let side : IsSide (network_of c.args.graph.now) (is_found c.in_ok-value.field-0.places.items) =
-    subst (λ n. IsSide n (is_found c.in_ok-value.field-0.places.items)) e c.in_ok-value.ensures.side in
+    c.in_ok-value.ensures.side in
     let capacity : capacity_of (network_of c.args.graph.now) (is_found c.in_ok-value.field-0.places.items) ≡
-    c.in_ok-value.field-0.value = subst (λ n. capacity_of n (is_found c.in_ok-value.field-0.places.items) ≡
-    c.in_ok-value.field-0.value) e c.in_ok-value.ensures.capacity in
+    c.in_ok-value.field-0.value = c.in_ok-value.ensures.capacity in
     let least : IsLeast (network_of c.args.graph.now) c.in_ok-value.field-0.value
     (is_found c.in_ok-value.field-0.places.items) =
-    subst (λ n. IsLeast n c.in_ok-value.field-0.value (is_found c.in_ok-value.field-0.places.items)) e
     c.in_ok-value.ensures.least in
     let made : IsMade c.args.graph.now c.in_ok-value.field-0.places.items c.in_ok-side.side.points
     c.in_ok-side.side.relays = record {
@@ -79,16 +65,14 @@ returns-clause-side c =
     least_from c.args.graph.now c.in_ok-value.field-0.value c.in_ok-value.field-0.flows.items
     c.in_ok-value.field-0.places.items c.in_ok-side.side.points c.in_ok-side.side.relays flow value made
     c.in_ok-side.ensures.points_count (ap length made.relays ∙ length-map c.args.graph.now.relays _)
-    (c.in_ok-value.ensures.count ∙ ap (λ n. n.nodes) e) side capacity least
+    c.in_ok-value.ensures.few side capacity least
 
 pub returns-clause-capacity : goal.returns-clause-capacity
 returns-clause-capacity c =
-    let e : net_of c.in_ok-network.network ≡ network_of c.args.graph.now = c.in_ok-network.ensures.net in
     let side : IsSide (network_of c.args.graph.now) (is_found c.in_ok-value.field-0.places.items) =
-    subst (λ n. IsSide n (is_found c.in_ok-value.field-0.places.items)) e c.in_ok-value.ensures.side in
+    c.in_ok-value.ensures.side in
     let capacity : capacity_of (network_of c.args.graph.now) (is_found c.in_ok-value.field-0.places.items) ≡
-    c.in_ok-value.field-0.value = subst (λ n. capacity_of n (is_found c.in_ok-value.field-0.places.items) ≡
-    c.in_ok-value.field-0.value) e c.in_ok-value.ensures.capacity in
+    c.in_ok-value.field-0.value = c.in_ok-value.ensures.capacity in
     let made : IsMade c.args.graph.now c.in_ok-value.field-0.places.items c.in_ok-side.side.points
     c.in_ok-side.side.relays = record {
       points = rw c.deref.ensures.value at c.in_ok-side.ensures.points;
@@ -101,10 +85,8 @@ returns-clause-capacity c =
 
 pub returns-clause-greatest : goal.returns-clause-greatest
 returns-clause-greatest c =
-    let e : net_of c.in_ok-network.network ≡ network_of c.args.graph.now = c.in_ok-network.ensures.net in
     let side : IsSide (network_of c.args.graph.now) (is_found c.in_ok-value.field-0.places.items) =
-    subst (λ n. IsSide n (is_found c.in_ok-value.field-0.places.items)) e c.in_ok-value.ensures.side in
+    c.in_ok-value.ensures.side in
     let capacity : capacity_of (network_of c.args.graph.now) (is_found c.in_ok-value.field-0.places.items) ≡
-    c.in_ok-value.field-0.value = subst (λ n. capacity_of n (is_found c.in_ok-value.field-0.places.items) ≡
-    c.in_ok-value.field-0.value) e c.in_ok-value.ensures.capacity in
+    c.in_ok-value.field-0.value = c.in_ok-value.ensures.capacity in
     greatest_from c.args.graph.now c.in_ok-value.field-0.value c.in_ok-value.field-0.places.items side capacity
