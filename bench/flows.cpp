@@ -1,11 +1,12 @@
-// flows: solves a graph of `bench/flows.py` by a plain Dinic and by two solvers of Boost, and prints for each the value and
-// the seconds of the solving alone. Standard input is one line: the capacities of the points, then the links.
+// flows: solves a graph of `bench/flows.py` by a plain Dinic and by two solvers of Boost, and prints for each the value,
+// the seconds of the solving alone, and those in which its network was made. Standard input is one line: the capacities of the points, the relays, then the links.
 #include <boost/graph/adjacency_list.hpp>
 #include <boost/graph/boykov_kolmogorov_max_flow.hpp>
 #include <boost/graph/push_relabel_max_flow.hpp>
 #include <chrono>
 #include <cstdio>
 #include <iostream>
+#include <map>
 #include <sstream>
 #include <string>
 #include <vector>
@@ -13,7 +14,7 @@
 using Seconds = std::chrono::duration<double>;
 using Clock = std::chrono::steady_clock;
 
-// a graph of halves: nodes 0 (source), 1 (sink), 2 + 2p and 3 + 2p (the halves of point p)
+// a graph of halves: nodes 0 (source), 1 (sink), 2 + 2p and 3 + 2p (the halves of point p), and then the relays
 struct Net {
     int nodes = 2;
     std::vector<int> from, to;
@@ -23,9 +24,16 @@ struct Net {
 
 static const long long OPEN = 1LL << 60;
 
-static int leaving(const std::string &end) { return end == "s" ? 0 : 3 + 2 * std::stoi(end.substr(1)); }
+static std::map<std::string, int> relays;
 
-static int entering(const std::string &end) { return end == "t" ? 1 : 2 + 2 * std::stoi(end.substr(1)); }
+static int node_of(const std::string &end, int half) {
+    if (end == "s" || end == "t") return end == "t";
+    return end[0] == 'r' ? relays.at(end) : 2 + half + 2 * std::stoi(end.substr(1));
+}
+
+static int leaving(const std::string &end) { return node_of(end, 1); }
+
+static int entering(const std::string &end) { return node_of(end, 0); }
 
 static Net read_net() {
     Net net;
@@ -33,14 +41,17 @@ static Net read_net() {
     int points = 0;
     while (std::cin >> word) {
         size_t dash = word.find('-');
-        if (dash == std::string::npos) {
+        if (dash == std::string::npos && word[0] == 'r') {
+            int node = 2 + 2 * points + relays.size();
+            relays[word] = node;
+        } else if (dash == std::string::npos) {
             net.add(2 + 2 * points, 3 + 2 * points, std::stoll(word));
             points++;
         } else {
             net.add(leaving(word.substr(0, dash)), entering(word.substr(dash + 1)), OPEN);
         }
     }
-    net.nodes = 2 + 2 * points;
+    net.nodes = 2 + 2 * points + relays.size();
     return net;
 }
 
@@ -130,19 +141,20 @@ static Graph boost_graph(const Net &net) {
     return graph;
 }
 
-template <typename Solve> static void timed(const char *name, Solve solve) {
+template <typename Make, typename Solve> static void timed(const char *name, Make make, Solve solve) {
     auto begin = Clock::now();
-    long long value = solve();
-    std::printf("%s %lld %.3f\n", name, value, Seconds(Clock::now() - begin).count());
+    auto network = make();
+    auto made = Clock::now();
+    long long value = solve(network);
+    auto end = Clock::now();
+    std::printf("%s %lld %.6f %.6f\n", name, value, Seconds(end - made).count(), Seconds(made - begin).count());
     std::fflush(stdout);
 }
 
 int main() {
     Net net = read_net();
-    Dinic dinic(net);
-    timed("dinic", [&] { return dinic.solve(); });
-    Graph first = boost_graph(net);
-    timed("boykov-kolmogorov", [&] { return boost::boykov_kolmogorov_max_flow(first, 0, 1); });
-    Graph second = boost_graph(net);
-    timed("push-relabel", [&] { return boost::push_relabel_max_flow(second, 0, 1); });
+    auto graph = [&] { return boost_graph(net); };
+    timed("dinic", [&] { return Dinic(net); }, [](Dinic &dinic) { return dinic.solve(); });
+    timed("boykov-kolmogorov", graph, [](Graph &made) { return boost::boykov_kolmogorov_max_flow(made, 0, 1); });
+    timed("push-relabel", graph, [](Graph &made) { return boost::push_relabel_max_flow(made, 0, 1); });
 }
