@@ -58,15 +58,14 @@ pub(crate) struct Walking<'b> {
 }
 
 /// What a look at what may differ makes of a walk.
-fn looked(look: Option<SecretLook>) -> Option<UnclearWhy>
-    ensures { result ≡ unclear_by_look look }
+fn looked(look: SecretLook) -> UnclearWhy
+    ensures { Some result ≡ unclear_by_look (Some look) }
 {
     match look {
-        Some(SecretLook::Code { pc }) => Some(UnclearWhy::SecretCode { pc }),
-        Some(SecretLook::BaseRegister { region, register }) => {
-            Some(UnclearWhy::BaseSecret { region, register })
+        SecretLook::Code { pc } => UnclearWhy::SecretCode { pc },
+        SecretLook::BaseRegister { region, register } => {
+            UnclearWhy::BaseSecret { region, register }
         }
-        None => None,
     }
 }
 
@@ -202,7 +201,9 @@ impl Passer for Walking<'_> {
         match self.unclear {
             Some(_) => Ok(()),
             None => {
-                self.unclear = looked(secret_look(&self.shadow, self.region, seen));
+                if let Some(look) = secret_look(&self.shadow, self.region, seen) {
+                    self.unclear = Some(looked(look));
+                }
                 Ok(())
             }
         }
