@@ -2,8 +2,10 @@ pub mod Strings
 pub mod Nodes
 pub mod Ruled
 pub mod OneVisit
+pub mod CleanRegisters
 pub mod CleanRules
 pub mod IdleVisits
+pub mod RestingVisits
 pub mod TurnsStay
 pub mod MadeTurns
 pub mod WalkedPaths

@@ -2,6 +2,7 @@
 pub mod Tapes
 pub mod Visited
 pub mod Idle
+pub mod Resting
 pub mod Ends
 pub mod Turning
 pub mod Walks

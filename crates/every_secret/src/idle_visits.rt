@@ -97,7 +97,7 @@ fn is_settled_aim(shadow: &Shadow, aim: Aim, skipped: bool) -> bool
 
 /// Whether nothing is shown of what passes at a slot.
 #[inline(always)]
-fn is_unseen(slot: Slot) -> bool
+pub(crate) fn is_unseen(slot: Slot) -> bool
     ensures { IsTrue result → shown_at slot ≡ NothingShown }
 {
     match shown_of(slot) {

@@ -20,6 +20,7 @@ mod path_ends;
 mod pattern_set;
 mod patterns;
 mod public_inputs;
+mod resting;
 mod searching;
 mod shown;
 mod starting;
@@ -30,6 +31,7 @@ mod turns;
 mod verdicts;
 mod visits;
 mod walking;
+mod watched_shadows;
 mod whys;
 
 pub use bounds::bound;

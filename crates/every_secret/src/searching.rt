@@ -19,7 +19,7 @@ use crate::walking::Walking;
 use cut_file::Cut;
 use elf32_loader::Image;
 use flow_base::{Bytes, NoMemory};
-use kept_states::{KeptState, Pieces};
+use kept_states::Pieces;
 use region_machine::MarkedRegions;
 use replay_machine::CutTable;
 use rv32im_machine::Machine;
@@ -96,11 +96,10 @@ fn look_up<'a>(
         side.now.status_mask side.now.unclear)) }
 {
     side.shadow.tell_registers();
-    let kept = KeptState::of(
+    let kept = side.shadow.keep(
         alloc,
         &mut search.pieces,
         &search.machine,
-        &side.shadow,
         &side.masks,
         side.byte_masks.as_slice(),
         side.status_mask,

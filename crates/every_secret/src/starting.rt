@@ -17,13 +17,13 @@ use crate::pattern_set::PatternSet;
 use crate::searching::{Search, Walks};
 use crate::sums::Sum;
 use crate::walking::Walking;
+use crate::watched_shadows::WatchedShadow;
 use crossing_bits::Bits;
 use flow_base::NoMemory;
-use kept_states::{KeptState, Pieces};
+use kept_states::Pieces;
 use region_machine::OUTPUT_LIMIT;
 use replay_machine::LentVisits;
 use rv32im_machine::Machine;
-use shadow_masks::Shadow;
 use std::alloc::Global;
 use tracked_run::Held;
 
@@ -34,7 +34,7 @@ fn first_side<'a>(alloc: Global, walks: Walks<'a>) -> Result<Walking<'a>, NoMemo
         (tape_of (ruling_of side.book.now.table side.known) side.shadow side.masks side.bits side.crossed side.byte_masks.items
         side.status_mask side.unclear)) }
 {
-    let shadow = Shadow::new(alloc, walks.image.base)?;
+    let shadow = WatchedShadow::new(alloc, walks.image.base)?;
     let masks = LentVisits::new(alloc, walks.table)?;
     let bits = Bits::with_room(alloc, 0)?;
     Ok(Walking {
@@ -50,6 +50,7 @@ fn first_side<'a>(alloc: Global, walks: Walks<'a>) -> Result<Walking<'a>, NoMemo
         region: 0,
         skipped: false,
         unclear: None,
+        rest: None,
     })
 }
 
@@ -88,11 +89,10 @@ fn open_start<'a>(
         side.now.status_mask side.now.unclear) turns) }
 {
     side.shadow.tell_registers();
-    let kept = KeptState::of(
+    let kept = side.shadow.keep(
         alloc,
         &mut search.pieces,
         &search.machine,
-        &side.shadow,
         &side.masks,
         side.byte_masks.as_slice(),
         side.status_mask,

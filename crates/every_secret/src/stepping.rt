@@ -136,12 +136,9 @@ fn go_back<'a>(
     let Some(last) = search.opens.last() else {
         unreachable!()
     };
-    let (masks, byte_masks) = last.kept.put_back(
-        alloc,
-        &search.pieces,
-        &mut search.machine,
-        &mut side.shadow,
-    )?;
+    let (masks, byte_masks) = side
+        .shadow
+        .put_back(alloc, &last.kept, &search.pieces, &mut search.machine)?;
     side.shadow.tell_registers();
     let mut bits = next;
     skip(&mut bits, last.depth);

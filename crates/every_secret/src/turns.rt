@@ -8,11 +8,13 @@ ghost use Rattle.replay_machine.specs.declared.outsides.Outside.{Outside as TheO
 ghost use Rattle.lockstep_replay.specs.Tasks.{Task};
 ghost use Rattle.every_secret.specs.Masked.{MaskedPlace};
 ghost use Rattle.every_secret.specs.Rules.{Rules};
+ghost use Rattle.tracked_run.specs.Labels.{labels_of};
+ghost use Rattle.every_secret.specs.Private.Resting.{Rests};
 ghost use Rattle.every_secret.specs.Private.Tapes.{AreRulesOf, HoldsPlace, Lengthens, ruling_of, tape_of};
 ghost use Rattle.every_secret.specs.Private.Turning.{IsReady, MakesFed, MakesKind};
 ghost use Rattle.every_secret.specs.Turns.{masked_turn, skips as is_skip};
 
-use crate::entries::secret_base;
+use crate::resting::{rest_of, rest_unless};
 use crate::walking::Walking;
 use crate::whys::UnclearWhy;
 use enclosure_regions::Region;
@@ -48,6 +50,7 @@ fn enter(
     requires rules { IsTrue (is_region region.now) }
     requires base { side.old.shadow.base ≡ machine.old.setting.base }
     requires clear { side.old.unclear ≡ None }
+    requires rest { Rests side.old.rest side.old.skipped side.old.masks (labels_of side.old.shadow side.old.held) side.old.unclear }
     ensures base { IfOk result (λ outside. side.new.shadow.base ≡ machine.new.setting.base) }
     ensures makes { IfOk result (λ outside. (regions : Seq TheRegion) →
         MakesKind (record { regions = regions; skip = skip.now }) (Enters region.now) side.old.region side.old.skipped
@@ -57,7 +60,7 @@ fn enter(
         (tape_of (ruling_of side.new.book.now.table side.new.known) side.new.shadow side.new.masks side.new.bits side.new.crossed
         side.new.byte_masks.items side.new.status_mask side.new.unclear)) }
 {
-    if let Some(register) = secret_base(&side.shadow, region.ranges.as_slice()) {
+    if let Some(register) = side.shadow.secret_base(region.ranges.as_slice()) {
         side.unclear = Some(UnclearWhy::BaseSecret {
             region: region.id,
             register,
@@ -86,6 +89,7 @@ fn make_kind(
     requires leave { IsTrue (can_leave (seen turn) machine.old.store.kept machine.old.setting.base) }
     requires base { side.old.shadow.base ≡ machine.old.setting.base }
     requires clear { side.old.unclear ≡ None }
+    requires rest { Rests side.old.rest side.old.skipped side.old.masks (labels_of side.old.shadow side.old.held) side.old.unclear }
     ensures base { IfOk result (λ outside. side.new.shadow.base ≡ machine.new.setting.base) }
     ensures makes { IfOk result (λ outside. (regions : Seq TheRegion) →
         MakesKind (record { regions = regions; skip = skip.now }) (seen turn.entry) side.old.region side.old.skipped
@@ -139,10 +143,12 @@ pub(crate) fn make_turn(
         (tape_of (ruling_of side.new.book.now.table side.new.known) side.new.shadow side.new.masks side.new.bits side.new.crossed
         side.new.byte_masks.items side.new.status_mask side.new.unclear)) }
 {
+    let rest = rest_of(&side.masks, &side.shadow, machine.pc());
     let turn = marked.next_turn(machine);
     side.held = Held::none();
     side.region = entered_number(turn);
     side.skipped = skips(turn, skip);
+    side.rest = rest_unless(side.skipped, rest);
     let outside = make_kind(machine, side, turn, skip)?;
     Ok(outside)
 }

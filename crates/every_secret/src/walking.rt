@@ -8,18 +8,19 @@ ghost use Rattle.tracked_run.specs.Labels.{labels_of};
 ghost use Rattle.every_secret.specs.Masked.{label_moved, unclear_by_left, unclear_by_look};
 ghost use Rattle.every_secret.specs.Private.Tapes.{PlaysWalk, ruling_of, tape_of};
 
-use crate::idle_visits::{are_words, is_idle, settle_aim};
+use crate::idle_visits::{are_words, settle_aim};
 use crate::public_inputs::{PublicInput, is_public_byte, public_mask};
+use crate::resting::passes_inside;
 use crate::shown::shown_of;
-use crate::visits::{note_free, passing_mask, put_in};
+use crate::visits::{note_free, put_in};
+use crate::watched_shadows::WatchedShadow;
 use crate::whys::UnclearWhy;
 use crossing_bits::{Bits, bit_count};
 use flow_base::{NoMemory, Point, Slot};
-use masked_turns::{LeftBits, SecretLook, left_bits, secret_look, uncrossed};
+use masked_turns::{LeftBits, SecretLook, left_bits, uncrossed};
 use replay_machine::LentVisits;
 use rv32im_machine::{Aim, Passer, Passing, Place, Seen, Shape, Source};
-use shadow_masks::Shadow;
-use tracked_run::{Held, labelled, note_move, note_restore, note_save, put_aimed};
+use tracked_run::{Held, labelled};
 use transfer_rules::RuleBook;
 
 /// The point of each label: none.
@@ -33,7 +34,7 @@ const NOWHERE: Point = Point {
 #[derive(Drop)]
 pub(crate) struct Walking<'b> {
     /// The masks of registers and bytes, as labels at no point.
-    pub shadow: Shadow,
+    pub shadow: WatchedShadow,
     /// The masks of the cut.
     pub masks: LentVisits<'b>,
     /// The string, which gets a 0 where a choice finds no bit left.
@@ -55,6 +56,8 @@ pub(crate) struct Walking<'b> {
     pub skipped: bool,
     /// What makes the walk unclear; values then go on as they are.
     pub unclear: Option<UnclearWhy>,
+    /// The address of the turn's instruction, if no bit crosses there and no register or operand may differ so far.
+    pub rest: Option<u32>,
 }
 
 /// What a look at what may differ makes of a walk.
@@ -83,7 +86,7 @@ fn decided(left: Option<LeftBits>) -> Option<UnclearWhy>
 /// or another. The turn may be the skip of a region.
 /// `NoMemory` where there is not enough.
 fn note_moved(
-    shadow: &mut Shadow,
+    shadow: &mut WatchedShadow,
     held: &mut Held,
     known: PublicInput,
     skipped: bool,
@@ -102,10 +105,10 @@ fn note_moved(
 {
     if is_public_byte(place, source, skipped) {
         let label = labelled(public_mask(known), NOWHERE);
-        put_aimed(shadow, held, Aim::Put(place), label)?;
+        shadow.put_aimed(held, Aim::Put(place), label)?;
         return Ok(());
     }
-    note_move(shadow, held, place, shape, source)?;
+    shadow.note_move(held, place, shape, source)?;
     Ok(())
 }
 
@@ -131,7 +134,10 @@ impl Walking<'_> {
             (tape_of (ruling_of self.old.book.now.table self.old.known) self.old.shadow self.old.masks self.old.bits self.old.crossed
             self.old.byte_masks.items self.old.status_mask self.old.unclear) (Passed passing go)) }
     {
-        if is_idle(&self.masks, &self.shadow, self.held, &passing, self.skipped) {
+        if self
+            .shadow
+            .is_idle(&self.masks, self.held, &passing, self.skipped)
+        {
             let _ = self.bits.left();
             are_words(&passing, self.crossed);
             settle_aim(&mut self.held, passing.aim, self.skipped);
@@ -162,11 +168,13 @@ impl Walking<'_> {
             self.old.byte_masks.items self.old.status_mask self.old.unclear) (Passed passing go)) }
     {
         let crossing = self.masks.next(passing.point);
-        let mask = passing_mask(&self.shadow, self.held, self.book, passing, self.skipped);
+        let mask = self
+            .shadow
+            .passing_mask(self.held, self.book, passing, self.skipped);
         let differing = mask & crossing;
         let left = uncrossed(mask, crossing);
         let label = labelled(left, NOWHERE);
-        put_aimed(&mut self.shadow, &mut self.held, passing.aim, label)?;
+        self.shadow.put_aimed(&mut self.held, passing.aim, label)?;
         self.crossed = self.crossed.saturating_add(bit_count(crossing));
         let shown = shown_of(passing.point.slot);
         self.status_mask = note_free(&mut self.byte_masks, self.status_mask, shown, differing)?;
@@ -180,6 +188,7 @@ impl Passer for Walking<'_> {
     ghost use Rattle.std.specs.Prelude.{Some};
     ghost use Rattle.std.proofs.Common.{refl};
     ghost use Rattle.tracked_run.specs.Labels.{labels_of};
+    ghost use Rattle.every_secret.specs.Private.Resting.{Rests};
     ghost use Rattle.every_secret.specs.Private.Tapes.{Tape, PlaysWalk, tape_of};
     ghost use Rattle.every_secret.specs.Private.Ends.{masks_Ended};
 
@@ -192,7 +201,8 @@ impl Passer for Walking<'_> {
 
     ghost memory = { λ side. Some side.shadow.base };
 
-    ghost Plays = { λ side walk out. PlaysWalk side.region side.skipped (labels_of side.shadow side.held)
+    ghost Plays = { λ side walk out. Rests side.rest side.skipped side.masks (labels_of side.shadow side.held) side.unclear →
+        PlaysWalk side.region side.skipped (labels_of side.shadow side.held)
         (tape_of (ruling_of side.book.now.table side.known) side.shadow side.masks side.bits side.crossed side.byte_masks.items
         side.status_mask side.unclear) walk out };
 
@@ -201,7 +211,8 @@ impl Passer for Walking<'_> {
         match self.unclear {
             Some(_) => Ok(()),
             None => {
-                if let Some(look) = secret_look(&self.shadow, self.region, seen) {
+                if let Some(look) = self.shadow.secret_look(self.region, seen) {
+                    self.rest = None;
                     self.unclear = Some(looked(look));
                 }
                 Ok(())
@@ -211,9 +222,18 @@ impl Passer for Walking<'_> {
 
     #[inline(always)]
     fn pass(&mut self, passing: Passing) -> Result<u32, NoMemory> {
+        if passes_inside(self.rest, &passing) {
+            let _ = self.bits.left();
+            are_words(&passing, self.crossed);
+            return Ok(passing.value);
+        }
         match self.unclear {
             Some(_) => Ok(passing.value),
-            None => self.visit(passing),
+            None => {
+                let value = self.visit(passing)?;
+                self.rest = None;
+                Ok(value)
+            }
         }
     }
 
@@ -226,6 +246,7 @@ impl Passer for Walking<'_> {
     ) -> Result<(), NoMemory> {
         let known = self.known;
         let skipped = self.skipped;
+        self.rest = None;
         note_moved(
             &mut self.shadow,
             &mut self.held,
@@ -239,16 +260,18 @@ impl Passer for Walking<'_> {
     }
 
     fn save(&mut self) -> Result<(), NoMemory> {
-        note_save(&mut self.shadow);
+        self.rest = None;
+        self.shadow.note_save();
         Ok(())
     }
 
     fn restore(&mut self, registers: &[u8]) -> Result<bool, NoMemory> {
-        note_restore(&mut self.shadow, registers);
+        self.rest = None;
+        self.shadow.note_restore(registers);
         Ok(true)
     }
 
-    ghost at_end = { λ side state masks past ahead.
+    ghost at_end = { λ side state rest masks past ahead.
         masks_Ended (record { masks = masks; skipped = side.skipped }) side.region past
         (labels_of side.shadow side.held)
         (tape_of (ruling_of side.book.now.table side.known) side.shadow side.masks side.bits side.crossed side.byte_masks.items

@@ -19,8 +19,8 @@ returns-in-Some-clause-safe g c =
     let safe = c.requires.safe in
     let back = safe.back in record {
       back = record {
-        opens = each_weaker (CanReturn terms search.pieces search.machine) (CanReturn terms c.of.new.pieces search.machine)
-            (returns_grown terms search.pieces c.of.new.pieces search.machine c.of.ensures.grows) search.opens.items
+        opens = each_weaker (CanReturn terms search.pieces search.machine) (CanReturn terms c.keep.new.pieces search.machine)
+            (returns_grown terms search.pieces c.keep.new.pieces search.machine c.keep.ensures.grows) search.opens.items
             back.opens;
         first = back.first;
         others = back.others;
@@ -44,15 +44,15 @@ returns-in-Some-clause-looks g c = λ basis is walking.
     side.status_mask side.unclear in
     let none : NonePast tape.shades =
     record { registers = c.tell_registers.ensures.registers; kept = c.tell_registers.ensures.kept } in
-    let keeps : Keeps c.of.new.pieces c.in_ok-kept.kept c.args.search.now.machine side.shadow side.masks
+    let keeps : Keeps c.keep.new.pieces c.in_ok-kept.kept c.args.search.now.machine side.shadow side.masks
     side.byte_masks.items side.status_mask =
-    subst (λ b. Keeps c.of.new.pieces c.in_ok-kept.kept c.args.search.now.machine side.shadow side.masks b
+    subst (λ b. Keeps c.keep.new.pieces c.in_ok-kept.kept c.args.search.now.machine side.shadow side.masks b
     side.status_mask) c.as_slice.ensures.value c.in_ok-kept.ensures.keeps in
     let found = c.in-Some.ensures.found in
     let budget = ap (λ (l : Limits). l.budget) is.limits in
     let bits = c.in-Some.ensures.bits in
     let within = c.requires.safe.crossed in
-    is_met basis terms is c.args.search.now c.of.new.pieces tape c.args.left c.in_ok-kept.kept walking c.of.ensures.grows
+    is_met basis terms is c.args.search.now c.keep.new.pieces tape c.args.left c.in_ok-kept.kept walking c.keep.ensures.grows
     keeps none c.requires.full c.in-Some.closed found.0 found.1 found.2 c.in-Some.ensures.turns
     (omega (arith, budget, bits, within))
 
@@ -64,9 +64,9 @@ returns-in_ok-put_last-in-None-clause-safe g c =
     let terms : Terms = terms_of (ruling_of walks.book.now.table walks.known) walks.marked.now.regions.items walks.cut.now.skip walks.budget walks.turns in
     let safe = c.requires.safe in
     let back = safe.back in
-    let keeps : Keeps c.of.new.pieces c.in_ok-kept.kept search.machine side.shadow side.masks side.byte_masks.items
+    let keeps : Keeps c.keep.new.pieces c.in_ok-kept.kept search.machine side.shadow side.masks side.byte_masks.items
     side.status_mask =
-    subst (λ b. Keeps c.of.new.pieces c.in_ok-kept.kept search.machine side.shadow side.masks b side.status_mask)
+    subst (λ b. Keeps c.keep.new.pieces c.in_ok-kept.kept search.machine side.shadow side.masks b side.status_mask)
     c.as_slice.ensures.value c.in_ok-kept.ensures.keeps in
     let entry : OpenPlace = record {
       kept = c.in_ok-kept.kept;
@@ -75,14 +75,14 @@ returns-in_ok-put_last-in-None-clause-safe g c =
       crossed = side.crossed;
       sum = c.none-sum.result;
     } in
-    let grown = each_weaker (CanReturn terms search.pieces search.machine) (CanReturn terms c.of.new.pieces search.machine)
-    (returns_grown terms search.pieces c.of.new.pieces search.machine c.of.ensures.grows) search.opens.items back.opens in
+    let grown = each_weaker (CanReturn terms search.pieces search.machine) (CanReturn terms c.keep.new.pieces search.machine)
+    (returns_grown terms search.pieces c.keep.new.pieces search.machine c.keep.ensures.grows) search.opens.items back.opens in
     record {
       back = record {
-        opens = subst (λ items. AllByRecursion (CanReturn terms c.of.new.pieces search.machine) items)
+        opens = subst (λ items. AllByRecursion (CanReturn terms c.keep.new.pieces search.machine) items)
             (sym c.in_ok-put_last-in-None.ensures)
-            (each_appended (CanReturn terms c.of.new.pieces search.machine) search.opens.items (entry ∷ []) grown (
-              opened_can_return terms c.of.new.pieces search.machine entry side.shadow side.masks side.byte_masks.items
+            (each_appended (CanReturn terms c.keep.new.pieces search.machine) search.opens.items (entry ∷ []) grown (
+              opened_can_return terms c.keep.new.pieces search.machine entry side.shadow side.masks side.byte_masks.items
                   side.status_mask keeps safe.ready.leaves safe.crossed,
               tt,
             ));
@@ -109,18 +109,18 @@ returns-in_ok-put_last-in-None-clause-looks g c = λ basis is walking.
     side.status_mask side.unclear in
     let none : NonePast tape.shades =
     record { registers = c.tell_registers.ensures.registers; kept = c.tell_registers.ensures.kept } in
-    let keeps : Keeps c.of.new.pieces c.in_ok-kept.kept search.machine side.shadow side.masks side.byte_masks.items
+    let keeps : Keeps c.keep.new.pieces c.in_ok-kept.kept search.machine side.shadow side.masks side.byte_masks.items
     side.status_mask =
-    subst (λ b. Keeps c.of.new.pieces c.in_ok-kept.kept search.machine side.shadow side.masks b side.status_mask)
+    subst (λ b. Keeps c.keep.new.pieces c.in_ok-kept.kept search.machine side.shadow side.masks b side.status_mask)
     c.as_slice.ensures.value c.in_ok-kept.ensures.keeps in
     let back = c.requires.safe.back in
-    is_opened basis terms is search c.of.new.pieces tape c.args.left c.in_ok-kept.kept walking c.of.ensures.grows
+    is_opened basis terms is search c.keep.new.pieces tape c.args.left c.in_ok-kept.kept walking c.keep.ensures.grows
     keeps none c.requires.full back.first back.others back.begins back.at_start
     (record {
       machine = search.machine;
       opens = c.put_last.new.opens;
       closed = search.closed;
-      pieces = c.of.new.pieces;
+      pieces = c.keep.new.pieces;
       findings = search.findings;
     }) refl refl refl refl
     (c.in_ok-put_last-in-None.ensures

@@ -19,7 +19,7 @@ returns-clause-safe g c =
     walks.turns in
     let before : Tape = tape_of (ruling_of side.book.now.table side.known) side.shadow side.masks side.bits side.crossed side.byte_masks.items
     side.status_mask side.unclear in
-    let tape : Tape = tape_of (ruling_of side.book.now.table side.known) c.put_back.new.shadow c.in_ok-masks.masks c.skip.new.bits last.crossed
+    let tape : Tape = tape_of (ruling_of side.book.now.table side.known) c.put_back.new.self c.in_ok-masks.masks c.skip.new.bits last.crossed
     c.in_ok-masks.byte_masks.items c.status_mask-side.result None in
     let is_last : LastOf search.opens.items last = last_of search.opens.items c.deref.result.now last
     c.deref.ensures.value c.in-Some.ensures.item.3.0 (c.in-Some.ensures.item.3.1 last) in
@@ -43,7 +43,7 @@ returns-clause-walks g c = λ basis is searched opens.
     let machine = c.put_back.new.machine in
     let terms : Terms = terms_of (ruling_of walks.book.now.table walks.known) walks.marked.now.regions.items walks.cut.now.skip walks.budget
     walks.turns in
-    let tape : Tape = tape_of (ruling_of side.book.now.table side.known) c.put_back.new.shadow c.in_ok-masks.masks c.skip.new.bits last.crossed
+    let tape : Tape = tape_of (ruling_of side.book.now.table side.known) c.put_back.new.self c.in_ok-masks.masks c.skip.new.bits last.crossed
     c.in_ok-masks.byte_masks.items c.status_mask-side.result None in
     let is_last : LastOf search.opens.items last = last_of search.opens.items c.deref.result.now last
     c.deref.ensures.value c.in-Some.ensures.item.3.0 (c.in-Some.ensures.item.3.1 last) in

@@ -22,4 +22,4 @@ returns-in_ok-skip_or_enter-in-None-clause-makes g c = λ regions.
     (secret_base_of kind (map_of side.shadow)) (kind_outside_range kind machine)
     (ap (λ ranges. secret_base ranges (map_of side.shadow)) (sym c.as_slice.ensures) ∙ (sym c.secret_base.ensures
     ∙ none_of c.secret_base.result c.in_default.not-Some)) (sym c.in-None.ensures.outside)
-    (c.in_ok-skip_or_enter-in-None.ensures.plays regions) refl
+    (c.in_ok-skip_or_enter-in-None.ensures.plays regions c.requires.rest) refl

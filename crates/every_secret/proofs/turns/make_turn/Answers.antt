@@ -1,8 +1,13 @@
-use Rattle.std.proofs.Common.{sym}
+use Rattle.std.proofs.Common.{sym, subst, false}
+use Rattle.std.specs.Prelude.{None}
 use Rattle.region_machine.specs.Enclosures.{Enclosures}
 use Rattle.region_machine.specs.Within.{seen}
 use Rattle.replay_machine.specs.ReplayTurns.{kind_outside_range}
-use Rattle.tracked_run.specs.Labels.{map_of}
+use Rattle.tracked_run.specs.Labels.{labels_of, map_of}
+use Rattle.tracked_run.specs.declared.held.Held.{Held}
+use Rattle.every_secret.specs.declared.whys.UnclearWhy.{UnclearWhy}
+use Rattle.std.specs.Prelude.{Option}
+use Rattle.every_secret.specs.Private.Resting.{Rests}
 use Rattle.every_secret.specs.Private.Tapes.{ruling_of, tape_of}
 use Rattle.every_secret.specs.Turns.{secret_base_of}
 use Rattle.every_secret.proofs.MadeTurns.{kind-halts, kind-longer, kind-ready, kind-stays, kind_ruling}
@@ -107,3 +112,13 @@ returns-clause-makes g c = λ rules task place answers same at.
     new.unclear) enclosures kind c.entered_number-side.result c.skips-side.result c.none-side.result answers same at
     c.next_turn-turn.ensures.kind c.entered_number-side.ensures
     (c.skips-side.ensures enclosures.regions) c.none-side.ensures (c.in_ok-outside.ensures.makes enclosures.regions)
+
+pub make_kind-requires-clause-rest : goal.make_kind-requires-clause-rest
+make_kind-requires-clause-rest g c =
+    let side = c.args.side.now in
+    let labels = labels_of side.shadow c.none-side.result in
+    subst (λ (unclear : Option UnclearWhy). Rests c.rest_unless-side.result c.skips-side.result side.masks labels unclear)
+    (sym c.requires.clear)
+    (c.rest_unless-side.ensures side.masks labels
+    (subst (λ (held : Held). Rests c.rest_of-rest.result false side.masks (labels_of side.shadow held) None)
+    (sym c.none-side.ensures) c.rest_of-rest.ensures))

@@ -18,10 +18,10 @@ returns-clause-goes g c = λ clear go out after masks past ahead.
     let self = c.args.self.now in
     let passing = c.args.passing in
     let old = labels_of self.shadow self.held in
-    let new = labels_of c.put_aimed.new.shadow c.put_aimed.new.held in
+    let new = labels_of c.put_aimed.new.self c.put_aimed.new.held in
     let before = tape_of (ruling_of self.book.now.table self.known) self.shadow self.masks self.bits self.crossed self.byte_masks.items
     self.status_mask self.unclear in
-    let mid = tape_of (ruling_of self.book.now.table self.known) c.put_aimed.new.shadow c.next-crossing.new.self c.put_in.new.bits
+    let mid = tape_of (ruling_of self.book.now.table self.known) c.put_aimed.new.self c.next-crossing.new.self c.put_in.new.bits
     c.saturating_add-self.result c.note_free.new.byte_masks.items c.in_ok-self.field-0 c.decided-self.result in
     masks-passed (record { masks = masks; skipped = self.skipped }) self.region past old before clear passing go
     c.in_ok-value.value new mid out refl c.in_ok-value.ensures.takes.longer

@@ -4,10 +4,11 @@ use Rattle.tracked_run.specs.Labels.{labels_of}
 use Rattle.every_secret.specs.Masked.{label_moved}
 use Rattle.every_secret.specs.Private.Tapes.{ruling_of, tape_of}
 use Rattle.every_secret.proofs.Nodes.{masks-moved}
+use Rattle.every_secret.proofs.RestingVisits.{no_rest}
 use Rattle.every_secret.proofs.walking.WalkingPasser.move_to.Goals as goal
 
 pub returns-clause-goes : goal.returns-clause-goes
-returns-clause-goes g c = λ walk out after masks past ahead.
+returns-clause-goes g c = λ walk out after rest masks past ahead.
     let self = c.args.self.now in
     let old = labels_of self.shadow self.held in
     masks-moved (record { masks = masks; skipped = self.skipped }) self.region past old
@@ -17,4 +18,4 @@ returns-clause-goes g c = λ walk out after masks past ahead.
     (λ rules are. c.in_ok-note_moved.ensures.labels
     ∙ ap (λ public. put_label c.args.place
     (label_moved public self.skipped old c.args.place c.args.shape c.args.source) old) (sym are.public))
-    (after masks past ahead)
+    (after (no_rest self.skipped self.masks _ self.unclear) masks past ahead)
