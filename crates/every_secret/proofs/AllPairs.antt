@@ -1,7 +1,7 @@
 -- What a bounded answer says of all pairs of a public input and a secret, from the law of one run; and of runs again and
 -- again.
-use Rattle.std.proofs.Common.{◌≡◌, ℕ, zero, suc, ◌*◌, ◌^◌, ◌<◌, ◌≤◌, true, List, [], ◌∷◌, ◌++◌, length}
-use Rattle.std.proofs.Common.{refl, sym, ap, subst, ◌∙◌, arith}
+use Rattle.std.proofs.Common.{◌≡◌, ℕ, zero, suc, ◌^◌, ◌<◌, ◌≤◌, true, List, [], ◌∷◌, ◌++◌, length}
+use Rattle.std.proofs.Common.{refl, sym, ap, subst, ◌∙◌}
 use Rattle.std.specs.Prelude.{slice_index}
 use Rattle.std.specs.List.{AllByRecursion}
 use Rattle.crossing_bits.specs.Askers.{AllDifferent}
@@ -16,7 +16,6 @@ use Rattle.rv32im_machine.specs.Start.{zeros}
 use Rattle.acceptance_law.specs.MeasuredLaws.{AreInputs}
 use Rattle.acceptance_law.proofs.AgreeOutsideMask.{agree_width}
 use Rattle.acceptance_law.proofs.CoveredRunAccepted.{length_zeros, zero_bytes}
-use Rattle.every_secret.specs.declared.public_inputs.PublicInput.{PublicInput}
 use Rattle.every_secret.specs.declared.public_inputs.PublicInput.TheVariants.{Any}
 use Rattle.every_secret.specs.AllSecrets.{Gives, IsSecret}
 use Rattle.every_secret.specs.AnyPublic.{AreRuns, AreSeenAs, IsHistory, IsPairGiven, IsPublic, IsRule, with_public}

@@ -1,5 +1,5 @@
 -- Registers that are clean stay so where the clean label is put, or a byte of memory gets another.
-use Rattle.std.proofs.Common.{◌≡◌, ℕ, ◌<◌, ◌≤◌, ◌==◌, ◌&&◌, Bool, true, false, refl, sym, arith, ap, ◌∙◌, nat_lt, if◌then◌else◌, inl, inr}
+use Rattle.std.proofs.Common.{◌≡◌, ℕ, ◌<◌, ◌≤◌, ◌==◌, ◌&&◌, Bool, true, false, refl, arith, nat_lt, if◌then◌else◌, inl, inr}
 use Rattle.crossing_bits.proofs.Feeding.{le_or_lt}
 use Rattle.rv32im_machine.specs.declared.language.Aim.{Aim}
 use Rattle.rv32im_machine.specs.declared.language.Aim.TheVariants.{Put, Decide, Give}

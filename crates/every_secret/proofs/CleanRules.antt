@@ -1,5 +1,5 @@
 -- The tables answer 0 for operands of which no bit may differ.
-use Rattle.std.proofs.Common.{◌≡◌, ℕ, ◌+◌, ◌-◌, ◌*◌, ◌/◌, ◌%◌, ◌^◌, ◌<◌, IsTrue, Bool, true, false, ◌||◌, refl, sym, ap, ap₂, ◌∙◌, subst, arith}
+use Rattle.std.proofs.Common.{◌≡◌, ℕ, ◌+◌, ◌-◌, ◌*◌, ◌%◌, ◌^◌, ◌<◌, IsTrue, ◌||◌, refl, sym, ap, ap₂, ◌∙◌, subst, arith}
 use Rattle.std.specs.Prelude.{bit_and, bit_or, bit_xor, nat_lt, nat_le, if◌then◌else◌}
 use Rattle.std.specs.Int.Bits.{and_zero_l, or_zero_r, xor_self}
 use Rattle.std.proofs.Math.Nat.{zero-div}

@@ -1,18 +1,16 @@
 -- A visit of which nothing comes is that of the definition.
 use Rattle.std.proofs.Common.{◌≡◌, ℕ, suc, ◌+◌, ◌-◌, ◌%◌, ◌^◌, ◌<◌, ◌≤◌, ◌==◌, Bool, true, false, List, [], ◌∷◌, length, refl, sym, ap, ap₂, ◌∙◌}
-use Rattle.std.proofs.Common.{subst, drop, take, if◌then◌else◌, arith, IsTrue, ◌&&◌, nat_lt, inl, inr}
-use Rattle.std.specs.Prelude.{bit_and, None}
+use Rattle.std.proofs.Common.{drop, take, if◌then◌else◌, arith, ◌&&◌, nat_lt, inl, inr}
+use Rattle.std.specs.Prelude.{None}
 use Rattle.std.proofs.lemmas.Bool.{cases_Bool, cond-false, cond-true, eqb-true}
 use mathlib.Core.Path.{fun_ext}
 use Rattle.cut_file.specs.declared.points.CutPoint.{CutPoint}
 use Rattle.cut_file.specs.Masks.{MaskAt}
 use Rattle.crossing_bits.proofs.Places.{count_zero, patched_zero}
-use Rattle.crossing_bits.specs.Streams.{Stream}
 use Rattle.flow_base.specs.declared.points.Point.{Point}
 use Rattle.flow_base.specs.declared.points.Slot.{Slot}
 use Rattle.flow_base.specs.PointOrders.{is_same}
-use Rattle.flow_base.specs.Points.{nowhere}
-use Rattle.flow_base.specs.Words.{bit_count, patched}
+use Rattle.flow_base.specs.Words.{bit_count}
 use Rattle.flow_base.proofs.PointOrders.{one_if_same}
 use Rattle.rv32im_decode.specs.Operations.{extended}
 use Rattle.rv32im_machine.specs.declared.language.Aim.{Aim}
@@ -20,8 +18,7 @@ use Rattle.rv32im_machine.specs.declared.language.Aim.TheVariants.{Put, Decide, 
 use Rattle.rv32im_machine.specs.declared.language.Operation.{Operation}
 use Rattle.rv32im_machine.specs.declared.language.Operation.TheVariants.{Result, Decision, Target}
 use Rattle.rv32im_machine.specs.declared.language.Passing.{Passing}
-use Rattle.rv32im_machine.specs.declared.language.Place.{Place}
-use Rattle.rv32im_machine.specs.declared.language.Place.TheVariants.{Register, Byte, First, Second}
+use Rattle.rv32im_machine.specs.declared.language.Place.TheVariants.{Register, Byte}
 use Rattle.rv32im_machine.specs.declared.language.Shape.{Shape}
 use Rattle.rv32im_decode.specs.declared.instructions.LoadKind.{LoadKind}
 use Rattle.rv32im_decode.specs.declared.instructions.LoadKind.TheVariants.{Lb, Lh, Lw, Lbu, Lhu}
@@ -37,8 +34,7 @@ use Rattle.shadow_masks.specs.declared.labels.Label.{Label}
 use Rattle.rv32im_machine.specs.declared.language.Sources.TheVariants.{Byte as BytesOne, Half as BytesTwo, Word as BytesFour}
 use Rattle.shadow_masks.specs.Labels.{clean}
 use Rattle.shadow_masks.specs.Pages.{AreClean}
-use Rattle.shadow_masks.specs.Writes.{LabelMap, ToRegister, ToByte, after}
-use Rattle.run_labels.specs.Answers.{IsTableAnswer, mask_by}
+use Rattle.run_labels.specs.Answers.{mask_by}
 use Rattle.run_labels.specs.Masks.{answered_mask, masks_of, work_mask}
 use Rattle.run_labels.specs.TurnLabels.{TurnLabels, aim_label, put_label}
 use Rattle.rv32im_machine.specs.Language.{first_of, part_of, second_of, shaped}
@@ -48,9 +44,8 @@ use Rattle.masked_turns.specs.Deciding.{left_at}
 use Rattle.every_secret.specs.Masked.{unclear_by_left}
 use Rattle.every_secret.specs.declared.shown.Shown.TheVariants.{Nothing}
 use Rattle.every_secret.specs.Rules.{AnswerAs, Rules, answer_to}
-use Rattle.every_secret.specs.Shown.{shown_at}
-use Rattle.every_secret.specs.Private.Idle.{AreOfWords, AreZero, IsIdle, IsSettled, IsSettledAim}
-use Rattle.every_secret.specs.Private.Tapes.{AreRulesOf, Tape}
+use Rattle.every_secret.specs.Private.Idle.{AreOfWords, AreZero, IsIdle, IsSettledAim}
+use Rattle.every_secret.specs.Private.Tapes.{Tape}
 use Rattle.every_secret.specs.Private.Visited.{IsVisited}
 use Rattle.transfer_rules.specs.declared.classes.Class.{Class}
 use Rattle.transfer_rules.specs.declared.operands.Operands.{Operands}

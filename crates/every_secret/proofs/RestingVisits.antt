@@ -1,7 +1,6 @@
 -- Where no register or operand may differ and no bit crosses, nothing comes of a visit that passes nothing else.
-use Rattle.std.proofs.Common.{◌≡◌, ℕ, Bool, true, false, List, refl, sym, ap, ◌∙◌}
-use Rattle.std.specs.Prelude.{Option, None, Some}
-use Rattle.std.proofs.lemmas.Bool.{false≢true}
+use Rattle.std.proofs.Common.{◌≡◌, ℕ, Bool, List, arith, refl, ap}
+use Rattle.std.specs.Prelude.{Option}
 use Rattle.cut_file.specs.declared.points.CutPoint.{CutPoint}
 use Rattle.rv32im_machine.specs.declared.language.Aim.{Aim}
 use Rattle.rv32im_machine.specs.declared.language.Aim.TheVariants.{Put, Decide, Give}
@@ -15,21 +14,16 @@ use Rattle.rv32im_machine.specs.declared.language.Sources.TheVariants.{One, Two,
 use Rattle.shadow_masks.specs.declared.labels.Label.{Label}
 use Rattle.shadow_masks.specs.Labels.{clean}
 use Rattle.run_labels.specs.Masks.{masks_of, source_mask}
-use Rattle.run_labels.specs.TurnLabels.{TurnLabels, aim_label, put_label}
+use Rattle.run_labels.specs.TurnLabels.{TurnLabels, aim_label}
 use Rattle.every_secret.specs.declared.whys.UnclearWhy.{UnclearWhy}
 use Rattle.every_secret.specs.Private.Idle.{AreZero, IsIdle, IsSettled, IsSettledAim}
 use Rattle.every_secret.specs.Private.Resting.{AreInner, IsInner, IsInnerAim, IsInnerSource, PassesInside, Rests, RestsAt}
 use Rattle.every_secret.proofs.IdleVisits.{register_stays}
 
-tells : Option ℕ → Bool
-tells None = false
-tells (Some address) = true
-
 -- no address is told
 pub no_rest : (skipped : Bool) (ahead : List CutPoint) (labels : TurnLabels) (unclear : Option UnclearWhy) →
-    Rests None skipped ahead labels unclear
-unfolding tells
-no_rest skipped ahead labels unclear = λ address is. absurd (false≢true (ap tells is))
+    Rests 4294967296 skipped ahead labels unclear
+no_rest skipped ahead labels unclear = λ small. absurd (omega (arith, small))
 
 inner_settled : (labels : TurnLabels) (place : Place) → ((register : ℕ) → labels.map.registers register ≡ clean) →
     IsInner place → IsSettled labels place
@@ -76,7 +70,7 @@ module _ (address : ℕ) (skipped : Bool) (ahead : List CutPoint) (labels : Turn
   resting_same Decide inner = refl
   resting_same (Give place) inner = absurd inner
 
-  pub resting_idle : (rest : Option ℕ) (passing : Passing) → passing.point.address ≡ address →
+  pub resting_idle : (rest : ℕ) (passing : Passing) → passing.point.address ≡ address →
       PassesInside rest passing → IsIdle ahead skipped labels passing
   resting_idle rest passing at inside = record {
     unseen = inside.unseen;

@@ -11,28 +11,31 @@ use crate::watched_shadows::WatchedShadow;
 use replay_machine::LentVisits;
 use rv32im_machine::{Aim, Passing, Place, Source, Sources};
 
+/// The number that is no address.
+pub(crate) const NO_REST: u64 = 4_294_967_296;
+
 /// The address of the instruction of a turn, if no bit crosses there and no register may differ.
 #[inline(always)]
-pub(crate) fn rest_of(masks: &LentVisits<'_>, shadow: &WatchedShadow, address: u32) -> Option<u32>
+pub(crate) fn rest_of(masks: &LentVisits<'_>, shadow: &WatchedShadow, address: u32) -> u64
     ensures { Rests result false masks.now (labels_of shadow.now clean_held) None }
 {
     if masks.is_marked(address) {
-        return None;
+        return NO_REST;
     }
     if shadow.has_clean_registers() {
-        Some(address)
+        u64::from(address)
     } else {
-        None
+        NO_REST
     }
 }
 
 /// The same in a turn that may be the skip of a region: in that none is told.
 #[inline(always)]
-pub(crate) fn rest_unless(skipped: bool, rest: Option<u32>) -> Option<u32>
+pub(crate) fn rest_unless(skipped: bool, rest: u64) -> u64
     ensures { (ahead : Seq TheCutPoint) (labels : Labels) → Rests rest false ahead labels None →
         Rests result skipped ahead labels None }
 {
-    if skipped { None } else { rest }
+    if skipped { NO_REST } else { rest }
 }
 
 /// Whether a place is a register or an operand of the turn.
@@ -88,13 +91,11 @@ fn are_inner(sources: Sources) -> bool
 
 /// Whether a visit passes nothing but registers, operands and numbers, in a turn that rests.
 #[inline(always)]
-pub(crate) fn passes_inside(rest: Option<u32>, passing: &Passing) -> bool
+pub(crate) fn passes_inside(rest: u64, passing: &Passing) -> bool
     ensures { IsTrue result → PassesInside rest passing.now }
 {
-    match rest {
-        Some(address) if address == passing.point.address => {
-            is_unseen(passing.point.slot) && is_inner_aim(passing.aim) && are_inner(passing.sources)
-        }
-        _ => false,
-    }
+    rest == u64::from(passing.point.address)
+        && is_unseen(passing.point.slot)
+        && is_inner_aim(passing.aim)
+        && are_inner(passing.sources)
 }

@@ -1,6 +1,6 @@
 //! The tree of a masked replay, walked in depth on one machine.
 
-ghost use Rattle.std.specs.Prelude.{◌≡◌, ◌+◌, ◌^◌, ◌<◌, ◌≤◌, ℕ, suc, IfOk, None, length};
+ghost use Rattle.std.specs.Prelude.{◌≡◌, ◌+◌, ◌^◌, ◌<◌, ◌≤◌, ℕ, suc, IfOk, IsTrue, None, length};
 ghost use Rattle.every_secret.specs.Private.Orders.{SameBefore};
 ghost use Rattle.every_secret.specs.Private.Searching.{CanGoBack, CanGoOn, FitsCame, FitsComing, FitsMet, GoesOrComes, GoesOrEnds, IsCome, IsBasis};
 ghost use Rattle.every_secret.specs.Private.Searching.{IsWalking, LooksUp, terms_of};
@@ -225,43 +225,12 @@ fn has_room(search: &Search<'_>, walks: Walks<'_>) -> bool {
         .has_room(walks.cut.points.len(), search.pieces.size())
 }
 
-/// A turn with so many left after it. `NoMemory` where there is not enough.
+/// Whether the state is looked up before a turn: no bit is left, one may cross, and a state may be kept.
 #[inline(always)]
-fn go_on<'a>(
-    alloc: Global,
-    search: &mut Search<'a>,
-    side: &mut Walking<'a>,
-    walks: Walks<'_>,
-    left: u32,
-) -> Result<Option<Came>, NoMemory>
-    requires safe { CanGoOn (terms_of (ruling_of walks.book.now.table walks.known) walks.marked.now.regions.items walks.cut.now.skip walks.budget
-        walks.turns) search.old (tape_of (ruling_of side.old.book.now.table side.old.known) side.old.shadow side.old.masks side.old.bits side.old.crossed side.old.byte_masks.items
-        side.old.status_mask side.old.unclear) }
-    requires left { left + 1 < 2 ^ 32 }
-    ensures early { IfOk result (λ came. SameBefore side.new.bits.bits side.old.bits.bits) }
-    ensures back { IfOk result (λ came. CanGoBack (terms_of (ruling_of walks.entry.book.now.table walks.entry.known) walks.entry.marked.now.regions.items walks.entry.cut.now.skip walks.entry.budget
-        walks.entry.turns) search.new (tape_of (ruling_of side.new.book.now.table side.new.known) side.new.shadow side.new.masks side.new.bits side.new.crossed side.new.byte_masks.items
-        side.new.status_mask side.new.unclear)) }
-    ensures safe { IfOk result (λ came. came ≡ None → CanGoOn (terms_of (ruling_of walks.entry.book.now.table walks.entry.known) walks.entry.marked.now.regions.items walks.entry.cut.now.skip walks.entry.budget
-        walks.entry.turns) search.new (tape_of (ruling_of side.new.book.now.table side.new.known) side.new.shadow side.new.masks side.new.bits side.new.crossed side.new.byte_masks.items
-        side.new.status_mask side.new.unclear)) }
-    ensures fits { IfOk result (λ came. FitsComing came side.new.crossed) }
-    ensures goes { IfOk result (λ came. (basis : Basis) → IsBasis (terms_of (ruling_of walks.entry.book.now.table walks.entry.known) walks.entry.marked.now.regions.items walks.entry.cut.now.skip walks.entry.budget
-        walks.entry.turns) basis →
-        IsWalking basis (suc left) search.old (tape_of (ruling_of side.old.book.now.table side.old.known) side.old.shadow side.old.masks side.old.bits side.old.crossed side.old.byte_masks.items
-        side.old.status_mask side.old.unclear) → GoesOrComes basis left came search.new (tape_of (ruling_of side.new.book.now.table side.new.known) side.new.shadow side.new.masks side.new.bits side.new.crossed side.new.byte_masks.items
-        side.new.status_mask side.new.unclear)) }
+fn is_looked_up(search: &Search<'_>, side: &Walking<'_>, walks: Walks<'_>) -> bool
+    ensures { IsTrue result → side.now.bits.taken ≡ length side.now.bits.bits }
 {
-    if side.bits.left() == 0
-        && side.masks.is_marked(search.machine.pc())
-        && has_room(search, walks)
-    {
-        return go_on_known(alloc, search, side, walks, left);
-    }
-    match make_one(search, side, walks)? {
-        Some(ending) => Ok(Some(Came::Ended(ending, left))),
-        None => Ok(None),
-    }
+    side.masks.is_marked(search.machine.pc()) && side.bits.left() == 0 && has_room(search, walks)
 }
 
 /// A walk with so many turns left, the first of them without a look, to where it goes no further.
@@ -319,8 +288,15 @@ fn walk_on<'a>(
         side.new.status_mask side.new.unclear)) }
 {
     for made in 0..left {
-        if let Some(came) = go_on(alloc, search, side, walks, left - made - 1)? {
-            return Ok(came);
+        let rest = left - made - 1;
+        if is_looked_up(search, side, walks) {
+            if let Some(came) = go_on_known(alloc, search, side, walks, rest)? {
+                return Ok(came);
+            }
+            continue;
+        }
+        if let Some(ending) = make_one(search, side, walks)? {
+            return Ok(Came::Ended(ending, rest));
         }
     }
     Ok(late(search, side, walks))

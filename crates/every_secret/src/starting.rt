@@ -14,6 +14,7 @@ use crate::closed_states::ClosedStates;
 use crate::findings::Findings;
 use crate::open_places::OpenPlace;
 use crate::pattern_set::PatternSet;
+use crate::resting::NO_REST;
 use crate::searching::{Search, Walks};
 use crate::sums::Sum;
 use crate::walking::Walking;
@@ -50,7 +51,7 @@ fn first_side<'a>(alloc: Global, walks: Walks<'a>) -> Result<Walking<'a>, NoMemo
         region: 0,
         skipped: false,
         unclear: None,
-        rest: None,
+        rest: NO_REST,
     })
 }
 

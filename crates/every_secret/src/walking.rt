@@ -10,7 +10,7 @@ ghost use Rattle.every_secret.specs.Private.Tapes.{PlaysWalk, ruling_of, tape_of
 
 use crate::idle_visits::{are_words, settle_aim};
 use crate::public_inputs::{PublicInput, is_public_byte, public_mask};
-use crate::resting::passes_inside;
+use crate::resting::{NO_REST, passes_inside};
 use crate::shown::shown_of;
 use crate::visits::{note_free, put_in};
 use crate::watched_shadows::WatchedShadow;
@@ -56,8 +56,9 @@ pub(crate) struct Walking<'b> {
     pub skipped: bool,
     /// What makes the walk unclear; values then go on as they are.
     pub unclear: Option<UnclearWhy>,
-    /// The address of the turn's instruction, if no bit crosses there and no register or operand may differ so far.
-    pub rest: Option<u32>,
+    /// The address of the turn's instruction, if no bit crosses there and no register or operand may differ so far; else
+    /// 2^32.
+    pub rest: u64,
 }
 
 /// What a look at what may differ makes of a walk.
@@ -212,7 +213,7 @@ impl Passer for Walking<'_> {
             Some(_) => Ok(()),
             None => {
                 if let Some(look) = self.shadow.secret_look(self.region, seen) {
-                    self.rest = None;
+                    self.rest = NO_REST;
                     self.unclear = Some(looked(look));
                 }
                 Ok(())
@@ -231,7 +232,7 @@ impl Passer for Walking<'_> {
             Some(_) => Ok(passing.value),
             None => {
                 let value = self.visit(passing)?;
-                self.rest = None;
+                self.rest = NO_REST;
                 Ok(value)
             }
         }
@@ -246,7 +247,7 @@ impl Passer for Walking<'_> {
     ) -> Result<(), NoMemory> {
         let known = self.known;
         let skipped = self.skipped;
-        self.rest = None;
+        self.rest = NO_REST;
         note_moved(
             &mut self.shadow,
             &mut self.held,
@@ -260,13 +261,13 @@ impl Passer for Walking<'_> {
     }
 
     fn save(&mut self) -> Result<(), NoMemory> {
-        self.rest = None;
+        self.rest = NO_REST;
         self.shadow.note_save();
         Ok(())
     }
 
     fn restore(&mut self, registers: &[u8]) -> Result<bool, NoMemory> {
-        self.rest = None;
+        self.rest = NO_REST;
         self.shadow.note_restore(registers);
         Ok(true)
     }

@@ -1,5 +1,5 @@
 -- A turn in which nothing comes of most visits: no bit crosses at its instruction, and no register or operand may differ.
-use Rattle.std.specs.Prelude.{◌≡◌, ℕ, Bool, false, List, Option, None, Some}
+use Rattle.std.specs.Prelude.{◌≡◌, ◌<◌, ◌^◌, ℕ, Bool, false, List, Option, None}
 use Rattle.cut_file.specs.declared.points.CutPoint.{CutPoint}
 use Rattle.cut_file.specs.Masks.{MaskAt}
 use Rattle.flow_base.specs.declared.points.Point.{Point}
@@ -27,9 +27,9 @@ pub record RestsAt (address : ℕ) (skipped : Bool) (ahead : List CutPoint) (lab
   pub whole : skipped ≡ false
   pub clear : unclear ≡ None
 
--- so it is if an address is told
-abbrev pub Rests : Option ℕ → Bool → List CutPoint → TurnLabels → Option UnclearWhy → Type 0
-Rests rest skipped ahead labels unclear = (address : ℕ) → rest ≡ Some address → RestsAt address skipped ahead labels unclear
+-- so it is if the number is an address; 2^32 is none
+abbrev pub Rests : ℕ → Bool → List CutPoint → TurnLabels → Option UnclearWhy → Type 0
+Rests rest skipped ahead labels unclear = rest < 2 ^ 32 → RestsAt rest skipped ahead labels unclear
 
 -- a place is a register or an operand of the turn
 abbrev pub IsInner : Place → Type 0
@@ -56,8 +56,9 @@ AreInner (BytesTwo address) = ⊥
 AreInner (BytesFour address) = ⊥
 
 -- a visit of the instruction at this address passes nothing but registers, operands and numbers, and shows nothing
-pub record PassesInside (rest : Option ℕ) (passing : Passing) : Type 0 where
-  pub address : rest ≡ Some passing.point.address
+pub record PassesInside (rest : ℕ) (passing : Passing) : Type 0 where
+  pub address : passing.point.address ≡ rest
+  pub small : rest < 2 ^ 32
   pub unseen : shown_at passing.point.slot ≡ Nothing
   pub aim : IsInnerAim passing.aim
   pub sources : AreInner passing.sources

@@ -1,4 +1,4 @@
-use Rattle.std.proofs.Common.{◌≡◌, ◌∙◌, ℕ, List, ap, subst}
+use Rattle.std.proofs.Common.{◌∙◌, ℕ, List, ap, subst}
 use Rattle.cut_file.specs.Pictures.{cut_picture}
 use Rattle.elf32_loader.specs.Images.{image_picture}
 use Rattle.enclosure_regions.specs.declared.region_lists.Regions.{Regions}

@@ -5,7 +5,7 @@ use Rattle.every_secret.specs.Private.Ends.{lengthens_none}
 use Rattle.every_secret.specs.Private.Tapes.{knowledge_of, ruling_of, tape_of}
 use Rattle.every_secret.proofs.IdleVisits.{ahead_stays, idle_visited}
 use Rattle.every_secret.proofs.Nodes.{masks-passed, over_passed}
-use Rattle.every_secret.proofs.RestingVisits.{no_rest, resting_idle, resting_same}
+use Rattle.every_secret.proofs.RestingVisits.{resting_idle, resting_same}
 use Rattle.every_secret.proofs.walking.WalkingPasser.pass.Goals as goal
 
 pub returns-then-passes_inside-clause-goes : goal.returns-then-passes_inside-clause-goes
@@ -16,9 +16,9 @@ returns-then-passes_inside-clause-goes g c = λ go out after rest masks past ahe
     let before = tape_of (ruling_of self.book.now.table self.known) self.shadow self.masks self.bits self.crossed self.byte_masks.items
     self.status_mask self.unclear in
     let inside = c.passes_inside.ensures c.if-passes_inside.true in
-    let address = passing.point.address in
-    let at = rest address inside.address in
-    let idle = resting_idle address self.skipped self.masks old self.unclear at self.rest passing refl inside in
+    let address = self.rest in
+    let at = rest inside.small in
+    let idle = resting_idle address self.skipped self.masks old self.unclear at address passing inside.address inside in
     let cutting : Cutting = record { masks = masks; skipped = self.skipped } in
     masks-passed cutting self.region past old before at.clear passing go passing.value old before out refl
     (lengthens_none before.stream)
