@@ -1,3 +1,2 @@
 pub mod Equals
-pub mod Lists
-pub mod OneCommand
+pub mod DecimalWords

@@ -1,70 +1,38 @@
 -- The command lines that are understood: a row for each command. The words after the command are parted into options
 -- and other words (see Parts).
-use Rattle.std.specs.Prelude.{◌≡◌, ℕ, ◌≤◌, true, List, [], ◌∷◌, length, codes, Option, None, Some}
+use Rattle.std.specs.Prelude.{◌≡◌, ℕ, true, List, [], ◌∷◌, length, codes, Option, None, Some, option_map, option_and_then}
 use Rattle.std.specs.Prelude.{◌&&◌, nat_le, if◌then◌else◌, Bool}
 use Rattle.std.specs.Fmt.{decimal}
 use Rattle.std.specs.Str.{bytes_eq}
+use Rattle.std.specs.Str.Parse.{digits_value}
 use Rattle.command_line.specs.declared.names.CommandName.{CommandName}
 use Rattle.command_line.specs.declared.names.CommandName.TheVariants as names
 use Rattle.command_line.specs.declared.judgings.Judging.{Judging}
 use Rattle.command_line.specs.declared.judgings.Judging.TheVariants.{Replay, Masks}
+use Rattle.command_line.specs.declared.settings.BoundSettings.{BoundSettings}
+use Rattle.command_line.specs.declared.settings.CheckSettings.{CheckSettings}
+use Rattle.command_line.specs.declared.settings.RunSettings.{RunSettings}
 use Rattle.command_line.specs.declared.tellings.Telling.{Telling}
 use Rattle.command_line.specs.declared.tellings.Telling.TheVariants.{CutText, Certificate, Report, Declaration}
-use Rattle.command_line.specs.Parts.{Parts, are_taken, has_option, parts_of, option_value}
+use Rattle.command_line.specs.Parts.{Named, are_taken, has_option, parts_of, option_value}
 
 -- ---- what commands name
 
--- a guest: the names of its program, its public input, and its region file, where one is named
-pub record GuestNames : Type 0 where
+-- a guest by its files: by their names, or as they are loaded
+pub record GuestFiles : Type 0 where
   pub program : List ℕ
   pub public_input : List ℕ
   pub region_file : Option (List ℕ)
 
--- secrets of a guest that are to be judged by a cut, with the limits of bits and of turns, and by what
-pub record Check : Type 0 where
-  pub guest : GuestNames
-  pub cut : List ℕ
-  pub secrets : List (List ℕ)
-  pub budget : ℕ
-  pub turns : ℕ
-  pub judging : Judging
-
--- one run of a guest that is to be told of: its secret, its limit of turns, and the table of the mask rules by which it
--- is measured
-pub record Run : Type 0 where
-  pub guest : GuestNames
-  pub secret : List ℕ
-  pub turns : ℕ
-  pub table : ℕ
-
--- several runs of a guest that are to be measured together
-pub record ManyRuns : Type 0 where
-  pub guest : GuestNames
-  pub secrets : List (List ℕ)
-  pub turns : ℕ
-  pub table : ℕ
-
--- all secrets of a guest, whose outputs are to be bounded by a cut, with the limits of bits, of turns and of paths, by the
--- mask rules of a table; whether the public input is unknown too, with its length alone given; and whether each pattern
--- of outputs is listed
-pub record AllSecrets : Type 0 where
-  pub guest : GuestNames
-  pub cut : List ℕ
-  pub budget : ℕ
-  pub turns : ℕ
-  pub table : ℕ
-  pub paths : ℕ
-  pub any_public : Bool
-  pub listed : Bool
-
--- a command: the judgement of secrets, the bound for all secrets, what is told of a run, the one cut of several runs in a
--- version of its text, the program file of a source, the listing of a program,
--- the verdict on a certificate, a cut in version 2, or a trial of the tool by a number
+-- A command, by the names of its files: secrets of a guest that are to be judged by a cut, all secrets whose outputs are
+-- to be bounded by one, what is to be told of a run on a secret, the one cut of runs on secrets in a version of its text,
+-- the program file of a source, the listing of a program, the verdict on a certificate, a cut in version 2, or a trial of
+-- the tool by a number.
 pub data Command : Type 0 where
-  Checks : Check → Command
-  Bounds : AllSecrets → Command
-  Tells : Telling → Run → Command
-  MeasuresAll : ℕ → ManyRuns → Command
+  Checks : GuestFiles → List ℕ → List (List ℕ) → CheckSettings → Command
+  Bounds : GuestFiles → List ℕ → BoundSettings → Command
+  Tells : Telling → GuestFiles → List ℕ → RunSettings → Command
+  MeasuresAll : ℕ → GuestFiles → List (List ℕ) → RunSettings → Command
   Assembles : List ℕ → Command
   Lists : List ℕ → Command
   Verifies : List ℕ → Command
@@ -76,152 +44,148 @@ pub data Command : Type 0 where
 abbrev pub highest_budget : ℕ
 highest_budget = 1048576
 
--- where no limit of turns is named
-abbrev pub default_turns : ℕ
-default_turns = 1000000
+-- the number whose text in decimal a word is, where it is within a range
+abbrev pub number_within : ℕ → ℕ → List ℕ → Option ℕ
+number_within lowest highest word =
+    if bytes_eq word (decimal (digits_value 10 word))
+    && (nat_le lowest (digits_value 10 word) && nat_le (digits_value 10 word) highest)
+    then Some (digits_value 10 word)
+    else None
 
-abbrev pub highest_turns : ℕ
-highest_turns = 20000000
+-- that of the value of an option, and without the option another
+abbrev pub number_or : ℕ → ℕ → ℕ → Option (List ℕ) → Option ℕ
+number_or other lowest highest None = Some other
+number_or other lowest highest (Some word) = number_within lowest highest word
 
--- where no limit of paths is named
-abbrev pub default_paths : ℕ
-default_paths = 65536
+abbrev pub turns_of : List Named → Option ℕ
+turns_of options = number_or 1000000 1 20000000 (option_value (codes "--turns") options)
 
-abbrev pub highest_paths : ℕ
-highest_paths = 1048576
+-- a version of a cut's text
+abbrev pub version_of : List Named → Option ℕ
+version_of options = number_or 1 1 2 (option_value (codes "--cut") options)
 
--- the greatest number of a trial
-abbrev pub highest_number : ℕ
-highest_number = 4294967295
+-- a table of mask rules
+abbrev pub table_of : List Named → Option ℕ
+table_of options = number_or 1 1 3 (option_value (codes "--rules") options)
 
--- the word is this number in decimal without leading zeros, and the number is within the range
-pub record IsNumber (lowest highest : ℕ) (word : List ℕ) (number : ℕ) : Type 0 where
-  pub written : word ≡ decimal number
-  pub above : lowest ≤ number
-  pub below : number ≤ highest
-
--- the value of an option is this number within the range; without the option it is another
-abbrev pub IsNumberOr : ℕ → ℕ → ℕ → Option (List ℕ) → ℕ → Type 0
-IsNumberOr other lowest highest None number = number ≡ other
-IsNumberOr other lowest highest (Some word) number = IsNumber lowest highest word number
-
-abbrev pub IsTurnLimit : Option (List ℕ) → ℕ → Type 0
-IsTurnLimit value turns = IsNumberOr default_turns 1 highest_turns value turns
-
--- 1 or 2, and 1 where nothing is named: a version of a cut's text
-abbrev pub IsChoice : Option (List ℕ) → ℕ → Type 0
-IsChoice value choice = IsNumberOr 1 1 2 value choice
-
--- 1, 2 or 3, and 1 where nothing is named: a table of mask rules
-abbrev pub IsTable : Option (List ℕ) → ℕ → Type 0
-IsTable value table = IsNumberOr 1 1 3 value table
+abbrev pub paths_of : List Named → Option ℕ
+paths_of options = number_or 65536 1 1048576 (option_value (codes "--paths") options)
 
 -- a table of mask rules is 1, 2 or 3
 abbrev pub has_table : Judging → Bool
 has_table Replay = true
 has_table (Masks table) = nat_le 1 table && nat_le table 3
 
+-- ---- what is said beside files
+
+abbrev pub where_so : {A : Type 0} → Bool → Option A → Option A
+where_so test found = if test then found else None
+
+-- with a word of bits
+abbrev pub check_settings : Judging → List ℕ → List Named → Option CheckSettings
+check_settings judging bits options =
+    option_and_then (λ budget. option_map (λ turns. record { budget = budget; turns = turns; judging = judging })
+    (turns_of options)) (number_within 0 highest_budget bits)
+
+abbrev pub run_settings : List Named → Option RunSettings
+run_settings options =
+    option_and_then (λ turns. option_map (λ table. record { turns = turns; table = table }) (table_of options))
+    (turns_of options)
+
+-- with a word of bits
+abbrev pub bound_settings : List ℕ → List Named → Option BoundSettings
+bound_settings bits options =
+    option_and_then (λ budget. option_and_then (λ (run : RunSettings). option_map (λ paths. record {
+      budget = budget;
+      turns = run.turns;
+      table = run.table;
+      paths = paths;
+      any_public = has_option (codes "--any-public") options;
+      listed = has_option (codes "--list") options;
+    }) (paths_of options)) (run_settings options)) (number_within 0 highest_budget bits)
+
 -- ---- what stands after each name of a command
 
--- the options of every command that judges secrets
-abbrev pub check_options : List (List ℕ)
-check_options = codes "--turns" ∷ codes "--regions" ∷ []
+-- with the region file that the options name
+abbrev pub guest_in : List ℕ → List ℕ → List Named → GuestFiles
+guest_in program public_input options = record {
+  program = program;
+  public_input = public_input;
+  region_file = option_value (codes "--regions") options;
+}
 
--- PROG PUBLIC CUT BUDGET SECRET.., with 1 to 64 secrets, and none but these options; the secrets are judged so
-pub record IsCheck (options : List (List ℕ)) (judging : Judging) (parts : Parts) (check : Check) : Type 0 where
-  pub budget : List ℕ
-  pub plain : parts.plain ≡ check.guest.program ∷ check.guest.public_input ∷ check.cut ∷ budget ∷ check.secrets
-  pub some : 1 ≤ length check.secrets
-  pub few : length check.secrets ≤ 64
-  pub bits : IsNumber 0 highest_budget budget check.budget
-  pub turns : IsTurnLimit (option_value (codes "--turns") parts.options) check.turns
-  pub regions : option_value (codes "--regions") parts.options ≡ check.guest.region_file
-  pub taken : are_taken options [] parts.options ≡ true
-  pub judged : check.judging ≡ judging
+-- 1 to 64 secrets
+abbrev pub are_few : List (List ℕ) → Bool
+are_few secrets = nat_le 1 (length secrets) && nat_le (length secrets) 64
 
--- PROG PUBLIC CUT BUDGET, with the options of a check, and those of table and paths
-pub record IsAllSecrets (parts : Parts) (all : AllSecrets) : Type 0 where
-  pub budget : List ℕ
-  pub plain : parts.plain ≡ all.guest.program ∷ all.guest.public_input ∷ all.cut ∷ budget ∷ []
-  pub bits : IsNumber 0 highest_budget budget all.budget
-  pub turns : IsTurnLimit (option_value (codes "--turns") parts.options) all.turns
-  pub regions : option_value (codes "--regions") parts.options ≡ all.guest.region_file
-  pub rules : IsTable (option_value (codes "--rules") parts.options) all.table
-  pub paths : IsNumberOr default_paths 1 highest_paths (option_value (codes "--paths") parts.options) all.paths
-  pub any_public : all.any_public ≡ has_option (codes "--any-public") parts.options
-  pub listed : all.listed ≡ has_option (codes "--list") parts.options
-  pub taken :
-      are_taken (codes "--rules" ∷ codes "--paths" ∷ check_options) (codes "--any-public" ∷ codes "--list" ∷ [])
-      parts.options ≡ true
+-- PROG PUBLIC CUT BUDGET SECRET..
+abbrev pub check_in : Judging → List (List ℕ) → List Named → Option Command
+check_in judging (program ∷ (public_input ∷ (cut ∷ (bits ∷ secrets)))) options =
+    where_so (are_few secrets) (option_map (λ settings. Checks (guest_in program public_input options) cut secrets settings)
+    (check_settings judging bits options))
+check_in judging words options = None
 
--- the options that every measured run may have
+-- PROG PUBLIC SECRET
+abbrev pub run_in : Telling → List (List ℕ) → List Named → Option Command
+run_in telling (program ∷ (public_input ∷ (secret ∷ []))) options =
+    option_map (λ settings. Tells telling (guest_in program public_input options) secret settings) (run_settings options)
+run_in telling words options = None
+
+-- PROG PUBLIC CUT BUDGET
+abbrev pub bound_in : List (List ℕ) → List Named → Option Command
+bound_in (program ∷ (public_input ∷ (cut ∷ (bits ∷ [])))) options =
+    option_map (λ settings. Bounds (guest_in program public_input options) cut settings) (bound_settings bits options)
+bound_in words options = None
+
+-- PROG PUBLIC SECRET..
+abbrev pub many_runs_in : ℕ → List (List ℕ) → List Named → Option Command
+many_runs_in version (program ∷ (public_input ∷ secrets)) options =
+    where_so (are_few secrets) (option_map (λ settings. MeasuresAll version (guest_in program public_input options) secrets
+    settings) (run_settings options))
+many_runs_in version words options = None
+
+-- PROG PUBLIC SECRET FILE, where FILE is the region file
+abbrev pub learning_in : List (List ℕ) → List Named → Option Command
+learning_in (program ∷ (public_input ∷ (secret ∷ (file ∷ [])))) options =
+    option_map (λ settings. Tells Declaration
+    (record { program = program; public_input = public_input; region_file = Some file }) secret settings)
+    (run_settings options)
+learning_in words options = None
+
+-- the options of every command of a guest, and those that every measured run may have
+abbrev pub guest_options : List (List ℕ)
+guest_options = codes "--turns" ∷ codes "--regions" ∷ []
+
 abbrev pub run_options : List (List ℕ)
-run_options = codes "--turns" ∷ codes "--regions" ∷ codes "--rules" ∷ []
+run_options = codes "--rules" ∷ guest_options
 
--- PROG PUBLIC SECRET, with none but these options and flags
-pub record IsRun (options flags : List (List ℕ)) (parts : Parts) (run : Run) : Type 0 where
-  pub plain : parts.plain ≡ run.guest.program ∷ run.guest.public_input ∷ run.secret ∷ []
-  pub turns : IsTurnLimit (option_value (codes "--turns") parts.options) run.turns
-  pub regions : option_value (codes "--regions") parts.options ≡ run.guest.region_file
-  pub rules : IsTable (option_value (codes "--rules") parts.options) run.table
-  pub taken : are_taken options flags parts.options ≡ true
-
--- PROG PUBLIC SECRET.., with 1 to 64 secrets
-pub record IsManyRuns (parts : Parts) (runs : ManyRuns) : Type 0 where
-  pub plain : parts.plain ≡ runs.guest.program ∷ runs.guest.public_input ∷ runs.secrets
-  pub some : 1 ≤ length runs.secrets
-  pub few : length runs.secrets ≤ 64
-  pub turns : IsTurnLimit (option_value (codes "--turns") parts.options) runs.turns
-  pub regions : option_value (codes "--regions") parts.options ≡ runs.guest.region_file
-  pub rules : IsTable (option_value (codes "--rules") parts.options) runs.table
-  pub taken : are_taken (codes "--cut" ∷ run_options) [] parts.options ≡ true
-
--- PROG PUBLIC SECRET FILE, with no option but the limit of turns: FILE is the region file
-pub record IsLearning (parts : Parts) (run : Run) : Type 0 where
-  pub file : List ℕ
-  pub plain : parts.plain ≡ run.guest.program ∷ run.guest.public_input ∷ run.secret ∷ file ∷ []
-  pub regions : Some file ≡ run.guest.region_file
-  pub turns : IsTurnLimit (option_value (codes "--turns") parts.options) run.turns
-  -- no mask rule is asked
-  pub rules : run.table ≡ 1
-  pub taken : are_taken (codes "--turns" ∷ []) [] parts.options ≡ true
-
--- a number in decimal, and no option
-pub record IsTrial (parts : Parts) (number : ℕ) : Type 0 where
-  pub word : List ℕ
-  pub plain : parts.plain ≡ word ∷ []
-  pub is : IsNumber 0 highest_number word number
-  pub options : parts.options ≡ []
-
--- one file and no option
-pub record IsOneFile (parts : Parts) (file : List ℕ) : Type 0 where
-  pub plain : parts.plain ≡ file ∷ []
-  pub options : parts.options ≡ []
-
--- the command that stands after a name
-abbrev pub Fits : CommandName → Parts → Command → Type 0
-Fits names.Check parts command =
-    (check : Check) × IsCheck check_options Replay parts check × (command ≡ Checks check)
-Fits names.Taint parts command =
-    (table : ℕ) × (check : Check) × IsCheck (codes "--rules" ∷ check_options) (Masks table) parts check
-    × IsTable (option_value (codes "--rules") parts.options) table × (command ≡ Checks check)
-Fits names.Bound parts command = (all : AllSecrets) × IsAllSecrets parts all × (command ≡ Bounds all)
-Fits names.Measure parts command =
-    (version : ℕ) × (run : Run) × IsRun (codes "--cut" ∷ run_options) [] parts run
-    × IsChoice (option_value (codes "--cut") parts.options) version × (command ≡ Tells (CutText version) run)
-Fits names.MeasureAll parts command =
-    (version : ℕ) × (runs : ManyRuns) × IsManyRuns parts runs
-    × IsChoice (option_value (codes "--cut") parts.options) version × (command ≡ MeasuresAll version runs)
-Fits names.Graph parts command = (run : Run) × IsRun run_options [] parts run × (command ≡ Tells Certificate run)
-Fits names.Report parts command =
-    (run : Run) × IsRun run_options (codes "--json" ∷ []) parts run
-    × (command ≡ Tells (Report (has_option (codes "--json") parts.options)) run)
-Fits names.Learn parts command = (run : Run) × IsLearning parts run × (command ≡ Tells Declaration run)
-Fits names.Assemble parts command = (file : List ℕ) × IsOneFile parts file × (command ≡ Assembles file)
-Fits names.List parts command = (file : List ℕ) × IsOneFile parts file × (command ≡ Lists file)
-Fits names.Verify parts command = (file : List ℕ) × IsOneFile parts file × (command ≡ Verifies file)
-Fits names.Migrate parts command = (file : List ℕ) × IsOneFile parts file × (command ≡ Migrates file)
-Fits names.Trial parts command = (number : ℕ) × IsTrial parts number × (command ≡ Tries number)
+-- The command that stands after a name, by its words that are no options, and its options. No option stands there but
+-- those that are named here, with a value, and these flags.
+abbrev pub row_of : CommandName → List (List ℕ) → List Named → Option Command
+row_of names.Check plain options = where_so (are_taken guest_options [] options) (check_in Replay plain options)
+row_of names.Taint plain options =
+    where_so (are_taken run_options [] options)
+    (option_and_then (λ table. check_in (Masks table) plain options) (table_of options))
+row_of names.Bound plain options =
+    where_so (are_taken (codes "--paths" ∷ run_options) (codes "--any-public" ∷ codes "--list" ∷ []) options)
+    (bound_in plain options)
+row_of names.Measure plain options =
+    where_so (are_taken (codes "--cut" ∷ run_options) [] options)
+    (option_and_then (λ version. run_in (CutText version) plain options) (version_of options))
+row_of names.MeasureAll plain options =
+    where_so (are_taken (codes "--cut" ∷ run_options) [] options)
+    (option_and_then (λ version. many_runs_in version plain options) (version_of options))
+row_of names.Graph plain options = where_so (are_taken run_options [] options) (run_in Certificate plain options)
+row_of names.Report plain options =
+    where_so (are_taken run_options (codes "--json" ∷ []) options)
+    (run_in (Report (has_option (codes "--json") options)) plain options)
+row_of names.Learn plain options = where_so (are_taken (codes "--turns" ∷ []) [] options) (learning_in plain options)
+row_of names.Assemble (file ∷ []) [] = Some (Assembles file)
+row_of names.List (file ∷ []) [] = Some (Lists file)
+row_of names.Verify (file ∷ []) [] = Some (Verifies file)
+row_of names.Migrate (file ∷ []) [] = Some (Migrates file)
+row_of names.Trial (word ∷ []) [] = option_map (λ number. Tries number) (number_within 0 4294967295 word)
+row_of name plain options = None
 
 -- ---- a command line
 
@@ -243,17 +207,17 @@ named_by word =
     else if bytes_eq word (codes "trial") then Some names.Trial
     else None
 
+-- the command that words name
+abbrev pub command_in : List (List ℕ) → Option Command
+command_in [] = None
+command_in (first ∷ others) =
+    option_and_then (λ name. option_and_then (λ parts. row_of name parts.plain parts.options) (parts_of others))
+    (named_by first)
+
 -- the words are this command line
-pub record IsCommand (words : List (List ℕ)) (command : Command) : Type 0 where
-  pub first : List ℕ
-  pub others : List (List ℕ)
-  pub line : words ≡ first ∷ others
-  pub name : CommandName
-  pub named : named_by first ≡ Some name
-  pub parts : Parts
-  pub parted : parts_of others ≡ Some parts
-  pub row : Fits name parts command
+abbrev pub IsCommand : List (List ℕ) → Command → Type 0
+IsCommand words command = command_in words ≡ Some command
 
 -- the words are no command line
 abbrev pub IsNoCommand : List (List ℕ) → Type 0
-IsNoCommand words = (command : Command) → ¬ IsCommand words command
+IsNoCommand words = command_in words ≡ None

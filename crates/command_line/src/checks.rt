@@ -1,9 +1,8 @@
-ghost use Rattle.std.specs.Prelude.{IsTrue};
+ghost use Rattle.std.specs.Prelude.{◌≤◌, IsTrue};
 ghost use Rattle.command_line.specs.CommandLines.{has_table};
 
 use crate::guests::GuestWords;
-use crate::judgings::Judging;
-use crate::limits::Limits;
+use crate::settings::CheckSettings;
 use flow_base::List;
 
 /// The words that name secrets which are to be judged.
@@ -15,9 +14,8 @@ pub struct CheckWords<'a> {
     pub cut: &'a str,
     /// The names of the files of the secrets.
     pub secrets: List<&'a str>,
-    /// The budget and the limit of turns.
-    pub limits: Limits,
-    /// By what they are judged; a table is 1, 2 or 3.
-    pub judging: Judging,
-    ghost known: { IsTrue (has_table judging) },
+    /// The limits of bits and turns, and by what they are judged.
+    pub settings: CheckSettings,
+    ghost few: { settings.budget ≤ 1048576 },
+    ghost known: { IsTrue (has_table settings.judging) },
 }

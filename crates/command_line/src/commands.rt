@@ -1,7 +1,6 @@
-ghost use Rattle.std.specs.Prelude.{◌≡◌, ◌∷◌, [], ℕ, List as Seq, None, Ok, map, string_bytes};
-ghost use Rattle.std.specs.Prelude.{IfNone, IfOk, IfSome};
-ghost use Rattle.command_line.specs.CommandLines.{Command, Fits, IsCommand, IsNoCommand, IsOneFile, IsTrial};
-ghost use Rattle.command_line.specs.Words.{command_of, parts_in};
+ghost use Rattle.std.specs.Prelude.{◌≡◌, ◌∷◌, [], ℕ, List as Seq, None, map, option_map, string_bytes, IfOk, IfSome};
+ghost use Rattle.command_line.specs.CommandLines.{command_in, row_of};
+ghost use Rattle.command_line.specs.Words.{command_of, named_in};
 ghost use Rattle.command_line.specs.declared.names.CommandName.TheVariants as names;
 
 use crate::all_secrets::AllSecretsWords;
@@ -11,8 +10,8 @@ use crate::checks::CheckWords;
 use crate::judgings::Judging;
 use crate::learn_rows::learn_words;
 use crate::names::CommandName;
-use crate::numbers::{choice_in, number_of, table_in};
-use crate::option_words::has_option;
+use crate::numbers::{number_of, table_in, version_in};
+use crate::option_words::{are_taken, has_option};
 use crate::parts::{Parts, parts_of};
 use crate::run_rows::{many_runs_words, run_words};
 use crate::runs::{ManyRunsWords, RunWords};
@@ -68,8 +67,10 @@ pub enum CommandWords<'a> {
 
 /// The file that the words after a command of one file name; None exactly where they name none.
 fn file_word<'a>(parts: &Parts<'a>) -> Option<&'a str>
-    ensures is { IfSome result (λ file. IsOneFile (parts_in parts.now) file.now) }
-    ensures none { IfNone result ((file : Seq ℕ) → ¬ IsOneFile (parts_in parts.now) file) }
+    ensures is { IfSome result (λ file. map (λ word. word.now) parts.now.plain ≡ file.now ∷ []) }
+    ensures bare { IfSome result (λ file. map named_in parts.now.options ≡ []) }
+    ensures none { result ≡ None → (file : Seq ℕ) → map (λ word. word.now) parts.now.plain ≡ file ∷ [] →
+        ¬ (map named_in parts.now.options ≡ []) }
 {
     if !parts.options.as_slice().is_empty() {
         return None;
@@ -82,61 +83,56 @@ fn file_word<'a>(parts: &Parts<'a>) -> Option<&'a str>
 
 /// The check that the words after `check` name; None exactly where they name none.
 fn check_row<'a>(alloc: Global, parts: &Parts<'a>) -> Result<Option<CommandWords<'a>>, NoMemory>
-    ensures is { IfOk result (λ found. IfSome found (λ command. Fits names.Check (parts_in parts.now) (command_of
-        command))) }
-    ensures none { result ≡ Ok None → (command : Command) → ¬ Fits names.Check (parts_in parts.now) command }
+    ensures { IfOk result (λ found. option_map command_of found ≡ row_of names.Check (map (λ word. word.now)
+        parts.now.plain) (map named_in parts.now.options)) }
 {
     let allowed = ["--turns", "--regions"];
-    let Some(check) = check_words(alloc, parts, &allowed, Judging::Replay)? else {
+    if !are_taken(parts.options.as_slice(), &allowed, &[]) {
         return Ok(None);
-    };
-    Ok(Some(CommandWords::Check(check)))
+    }
+    check_words(alloc, parts, Judging::Replay)
 }
 
 /// The check with one machine that the words after `taint` name; None exactly where they name none.
 fn taint_row<'a>(alloc: Global, parts: &Parts<'a>) -> Result<Option<CommandWords<'a>>, NoMemory>
-    ensures is { IfOk result (λ found. IfSome found (λ command. Fits names.Taint (parts_in parts.now) (command_of
-        command))) }
-    ensures none { result ≡ Ok None → (command : Command) → ¬ Fits names.Taint (parts_in parts.now) command }
+    ensures { IfOk result (λ found. option_map command_of found ≡ row_of names.Taint (map (λ word. word.now)
+        parts.now.plain) (map named_in parts.now.options)) }
 {
-    let Some(table) = table_in(parts) else {
-        return Ok(None);
-    };
+    let options = parts.options.as_slice();
     let allowed = ["--rules", "--turns", "--regions"];
-    let Some(check) = check_words(alloc, parts, &allowed, Judging::Masks(table))? else {
+    if !are_taken(options, &allowed, &[]) {
+        return Ok(None);
+    }
+    let Some(table) = table_in(options) else {
         return Ok(None);
     };
-    Ok(Some(CommandWords::Check(check)))
+    check_words(alloc, parts, Judging::Masks(table))
 }
 
 /// The bound that the words after `bound` name; None exactly where they name none.
-fn bound_row<'a>(parts: &Parts<'a>) -> Result<Option<CommandWords<'a>>, NoMemory>
-    ensures is { IfOk result (λ found. IfSome found (λ command. Fits names.Bound (parts_in parts.now) (command_of
-        command))) }
-    ensures none { result ≡ Ok None → (command : Command) → ¬ Fits names.Bound (parts_in parts.now) command }
+fn bound_row<'a>(parts: &Parts<'a>) -> Option<CommandWords<'a>>
+    ensures { option_map command_of result ≡ row_of names.Bound (map (λ word. word.now) parts.now.plain)
+        (map named_in parts.now.options) }
 {
-    let Some(all) = all_secrets_words(parts) else {
-        return Ok(None);
-    };
-    Ok(Some(CommandWords::Bound(all)))
+    let allowed = ["--paths", "--rules", "--turns", "--regions"];
+    let flags = ["--any-public", "--list"];
+    if !are_taken(parts.options.as_slice(), &allowed, &flags) {
+        return None;
+    }
+    all_secrets_words(parts)
 }
 
 /// The cut of the run that the words after `measure` name; None exactly where they name none.
-fn measure_row<'a>(parts: &Parts<'a>) -> Result<Option<CommandWords<'a>>, NoMemory>
-    ensures is { IfOk result (λ found. IfSome found (λ command. Fits names.Measure (parts_in parts.now) (command_of
-        command))) }
-    ensures none { result ≡ Ok None → (command : Command) → ¬ Fits names.Measure (parts_in parts.now) command }
+fn measure_row<'a>(parts: &Parts<'a>) -> Option<CommandWords<'a>>
+    ensures { option_map command_of result ≡ row_of names.Measure (map (λ word. word.now) parts.now.plain)
+        (map named_in parts.now.options) }
 {
-    let Some(version) = choice_in(parts, "--cut") else {
-        return Ok(None);
-    };
-    let Some(run) = run_words(parts, &["--cut", "--turns", "--regions", "--rules"], &[]) else {
-        return Ok(None);
-    };
-    Ok(Some(CommandWords::Tell {
-        telling: Telling::CutText(version),
-        run,
-    }))
+    let options = parts.options.as_slice();
+    if !are_taken(options, &["--cut", "--rules", "--turns", "--regions"], &[]) {
+        return None;
+    }
+    let version = version_in(options)?;
+    run_words(Telling::CutText(version), parts)
 }
 
 /// The cut of all the runs that the words after `measure-all` name; None exactly where they name none.
@@ -144,137 +140,101 @@ fn measure_all_row<'a>(
     alloc: Global,
     parts: &Parts<'a>,
 ) -> Result<Option<CommandWords<'a>>, NoMemory>
-    ensures is { IfOk result (λ found. IfSome found (λ command. Fits names.MeasureAll (parts_in parts.now) (command_of
-        command))) }
-    ensures none { result ≡ Ok None → (command : Command) → ¬ Fits names.MeasureAll (parts_in parts.now) command }
+    ensures { IfOk result (λ found. option_map command_of found ≡ row_of names.MeasureAll (map (λ word. word.now)
+        parts.now.plain) (map named_in parts.now.options)) }
 {
-    let Some(version) = choice_in(parts, "--cut") else {
+    let options = parts.options.as_slice();
+    if !are_taken(options, &["--cut", "--rules", "--turns", "--regions"], &[]) {
+        return Ok(None);
+    }
+    let Some(version) = version_in(options) else {
         return Ok(None);
     };
-    let Some(runs) = many_runs_words(alloc, parts)? else {
-        return Ok(None);
-    };
-    Ok(Some(CommandWords::MeasureAll { version, runs }))
+    many_runs_words(alloc, version, parts)
 }
 
 /// The certificate of the run that the words after `graph` name; None exactly where they name none.
-fn graph_row<'a>(parts: &Parts<'a>) -> Result<Option<CommandWords<'a>>, NoMemory>
-    ensures is { IfOk result (λ found. IfSome found (λ command. Fits names.Graph (parts_in parts.now) (command_of
-        command))) }
-    ensures none { result ≡ Ok None → (command : Command) → ¬ Fits names.Graph (parts_in parts.now) command }
+fn graph_row<'a>(parts: &Parts<'a>) -> Option<CommandWords<'a>>
+    ensures { option_map command_of result ≡ row_of names.Graph (map (λ word. word.now) parts.now.plain)
+        (map named_in parts.now.options) }
 {
-    let Some(run) = run_words(parts, &["--turns", "--regions", "--rules"], &[]) else {
-        return Ok(None);
-    };
-    Ok(Some(CommandWords::Tell {
-        telling: Telling::Certificate,
-        run,
-    }))
+    if !are_taken(
+        parts.options.as_slice(),
+        &["--rules", "--turns", "--regions"],
+        &[],
+    ) {
+        return None;
+    }
+    run_words(Telling::Certificate, parts)
 }
 
 /// The report of the run that the words after `report` name; None exactly where they name none.
-fn report_row<'a>(parts: &Parts<'a>) -> Result<Option<CommandWords<'a>>, NoMemory>
-    ensures is { IfOk result (λ found. IfSome found (λ command. Fits names.Report (parts_in parts.now) (command_of
-        command))) }
-    ensures none { result ≡ Ok None → (command : Command) → ¬ Fits names.Report (parts_in parts.now) command }
+fn report_row<'a>(parts: &Parts<'a>) -> Option<CommandWords<'a>>
+    ensures { option_map command_of result ≡ row_of names.Report (map (λ word. word.now) parts.now.plain)
+        (map named_in parts.now.options) }
 {
-    let Some(run) = run_words(parts, &["--turns", "--regions", "--rules"], &["--json"]) else {
-        return Ok(None);
-    };
-    let json = has_option(parts.options.as_slice(), "--json");
-    Ok(Some(CommandWords::Tell {
-        telling: Telling::Report(json),
-        run,
-    }))
+    let options = parts.options.as_slice();
+    if !are_taken(options, &["--rules", "--turns", "--regions"], &["--json"]) {
+        return None;
+    }
+    run_words(Telling::Report(has_option(options, "--json")), parts)
 }
 
 /// The declaration of the run that the words after `learn` name; None exactly where they name none.
-fn learn_row<'a>(parts: &Parts<'a>) -> Result<Option<CommandWords<'a>>, NoMemory>
-    ensures is { IfOk result (λ found. IfSome found (λ command. Fits names.Learn (parts_in parts.now) (command_of
-        command))) }
-    ensures none { result ≡ Ok None → (command : Command) → ¬ Fits names.Learn (parts_in parts.now) command }
+fn learn_row<'a>(parts: &Parts<'a>) -> Option<CommandWords<'a>>
+    ensures { option_map command_of result ≡ row_of names.Learn (map (λ word. word.now) parts.now.plain)
+        (map named_in parts.now.options) }
 {
-    let Some(run) = learn_words(parts) else {
-        return Ok(None);
-    };
-    Ok(Some(CommandWords::Tell {
-        telling: Telling::Declaration,
-        run,
-    }))
+    if !are_taken(parts.options.as_slice(), &["--turns"], &[]) {
+        return None;
+    }
+    learn_words(parts)
 }
 
 /// The source that the words after `asm` name; None exactly where they name none.
-fn assemble_row<'a>(parts: &Parts<'a>) -> Result<Option<CommandWords<'a>>, NoMemory>
-    ensures is { IfOk result (λ found. IfSome found (λ command. Fits names.Assemble (parts_in parts.now) (command_of
-        command))) }
-    ensures none { result ≡ Ok None → (command : Command) → ¬ Fits names.Assemble (parts_in parts.now) command }
+fn assemble_row<'a>(parts: &Parts<'a>) -> Option<CommandWords<'a>>
+    ensures { option_map command_of result ≡ row_of names.Assemble (map (λ word. word.now) parts.now.plain)
+        (map named_in parts.now.options) }
 {
-    match file_word(parts) {
-        Some(source) => Ok(Some(CommandWords::Assemble { source })),
-        None => Ok(None),
-    }
+    let source = file_word(parts)?;
+    Some(CommandWords::Assemble { source })
 }
 
 /// The program to be listed that the words after `list` name; None exactly where they name none.
-fn list_row<'a>(parts: &Parts<'a>) -> Result<Option<CommandWords<'a>>, NoMemory>
-    ensures is { IfOk result (λ found. IfSome found (λ command. Fits names.List (parts_in parts.now) (command_of
-        command))) }
-    ensures none { result ≡ Ok None → (command : Command) → ¬ Fits names.List (parts_in parts.now) command }
+fn list_row<'a>(parts: &Parts<'a>) -> Option<CommandWords<'a>>
+    ensures { option_map command_of result ≡ row_of names.List (map (λ word. word.now) parts.now.plain)
+        (map named_in parts.now.options) }
 {
-    match file_word(parts) {
-        Some(program) => Ok(Some(CommandWords::List { program })),
-        None => Ok(None),
-    }
+    let program = file_word(parts)?;
+    Some(CommandWords::List { program })
 }
 
 /// The certificate that the words after `verify` name; None exactly where they name none.
-fn verify_row<'a>(parts: &Parts<'a>) -> Result<Option<CommandWords<'a>>, NoMemory>
-    ensures is { IfOk result (λ found. IfSome found (λ command. Fits names.Verify (parts_in parts.now) (command_of
-        command))) }
-    ensures none { result ≡ Ok None → (command : Command) → ¬ Fits names.Verify (parts_in parts.now) command }
+fn verify_row<'a>(parts: &Parts<'a>) -> Option<CommandWords<'a>>
+    ensures { option_map command_of result ≡ row_of names.Verify (map (λ word. word.now) parts.now.plain)
+        (map named_in parts.now.options) }
 {
-    match file_word(parts) {
-        Some(certificate) => Ok(Some(CommandWords::Verify { certificate })),
-        None => Ok(None),
-    }
+    let certificate = file_word(parts)?;
+    Some(CommandWords::Verify { certificate })
 }
 
 /// The cut that the words after `migrate` name; None exactly where they name none.
-fn migrate_row<'a>(parts: &Parts<'a>) -> Result<Option<CommandWords<'a>>, NoMemory>
-    ensures is { IfOk result (λ found. IfSome found (λ command. Fits names.Migrate (parts_in parts.now) (command_of
-        command))) }
-    ensures none { result ≡ Ok None → (command : Command) → ¬ Fits names.Migrate (parts_in parts.now) command }
+fn migrate_row<'a>(parts: &Parts<'a>) -> Option<CommandWords<'a>>
+    ensures { option_map command_of result ≡ row_of names.Migrate (map (λ word. word.now) parts.now.plain)
+        (map named_in parts.now.options) }
 {
-    match file_word(parts) {
-        Some(cut) => Ok(Some(CommandWords::Migrate { cut })),
-        None => Ok(None),
-    }
-}
-
-/// The number that the words after `trial` name; None exactly where they name none.
-fn trial_number(parts: &Parts) -> Option<u32>
-    ensures is { IfSome result (λ number. IsTrial (parts_in parts.now) number) }
-    ensures none { result ≡ None → (number : ℕ) → ¬ IsTrial (parts_in parts.now) number }
-{
-    if !parts.options.as_slice().is_empty() {
-        return None;
-    }
-    match parts.plain.as_slice() {
-        [word] => number_of(*word, 0, u32::MAX),
-        _ => None,
-    }
+    let cut = file_word(parts)?;
+    Some(CommandWords::Migrate { cut })
 }
 
 /// The trial that the words after `trial` name; None exactly where they name none.
-fn trial_row<'a>(parts: &Parts<'a>) -> Result<Option<CommandWords<'a>>, NoMemory>
-    ensures is { IfOk result (λ found. IfSome found (λ command. Fits names.Trial (parts_in parts.now) (command_of
-        command))) }
-    ensures none { result ≡ Ok None → (command : Command) → ¬ Fits names.Trial (parts_in parts.now) command }
+fn trial_row<'a>(parts: &Parts<'a>) -> Option<CommandWords<'a>>
+    ensures { option_map command_of result ≡ row_of names.Trial (map (λ word. word.now) parts.now.plain)
+        (map named_in parts.now.options) }
 {
-    let Some(number) = trial_number(parts) else {
-        return Ok(None);
-    };
-    Ok(Some(CommandWords::Trial { number }))
+    let word = file_word(parts)?;
+    let number = number_of(word, 0, u32::MAX)?;
+    Some(CommandWords::Trial { number })
 }
 
 /// The command of a name that has the words after it; None exactly where there is none.
@@ -283,23 +243,23 @@ fn row_of<'a>(
     name: CommandName,
     parts: &Parts<'a>,
 ) -> Result<Option<CommandWords<'a>>, NoMemory>
-    ensures is { IfOk result (λ found. IfSome found (λ command. Fits name (parts_in parts.now) (command_of command))) }
-    ensures none { result ≡ Ok None → (command : Command) → ¬ Fits name (parts_in parts.now) command }
+    ensures { IfOk result (λ found. option_map command_of found ≡ row_of name (map (λ word. word.now) parts.now.plain)
+        (map named_in parts.now.options)) }
 {
     match name {
         CommandName::Check => check_row(alloc, parts),
         CommandName::Taint => taint_row(alloc, parts),
-        CommandName::Bound => bound_row(parts),
-        CommandName::Measure => measure_row(parts),
+        CommandName::Bound => Ok(bound_row(parts)),
+        CommandName::Measure => Ok(measure_row(parts)),
         CommandName::MeasureAll => measure_all_row(alloc, parts),
-        CommandName::Graph => graph_row(parts),
-        CommandName::Report => report_row(parts),
-        CommandName::Learn => learn_row(parts),
-        CommandName::Assemble => assemble_row(parts),
-        CommandName::List => list_row(parts),
-        CommandName::Verify => verify_row(parts),
-        CommandName::Migrate => migrate_row(parts),
-        CommandName::Trial => trial_row(parts),
+        CommandName::Graph => Ok(graph_row(parts)),
+        CommandName::Report => Ok(report_row(parts)),
+        CommandName::Learn => Ok(learn_row(parts)),
+        CommandName::Assemble => Ok(assemble_row(parts)),
+        CommandName::List => Ok(list_row(parts)),
+        CommandName::Verify => Ok(verify_row(parts)),
+        CommandName::Migrate => Ok(migrate_row(parts)),
+        CommandName::Trial => Ok(trial_row(parts)),
     }
 }
 
@@ -309,9 +269,7 @@ pub fn command_line<'a>(
     alloc: Global,
     words: &'a [String],
 ) -> Result<Option<CommandWords<'a>>, NoMemory>
-    ensures is { IfOk result (λ found. IfSome found (λ command. IsCommand (map string_bytes words.entry.now)
-        (command_of command))) }
-    ensures none { result ≡ Ok None → IsNoCommand (map string_bytes words.entry.now) }
+    ensures { IfOk result (λ found. option_map command_of found ≡ command_in (map string_bytes words.entry.now)) }
 {
     let [first, others @ ..] = words else {
         return Ok(None);

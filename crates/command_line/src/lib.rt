@@ -9,13 +9,14 @@ mod commands;
 mod guests;
 mod judgings;
 mod learn_rows;
-mod limits;
 mod names;
 mod numbers;
 mod option_words;
 mod parts;
 mod run_rows;
 mod runs;
+mod settings;
+mod settings_rows;
 mod tellings;
 
 pub use all_secrets::AllSecretsWords;
@@ -23,11 +24,11 @@ pub use checks::CheckWords;
 pub use commands::{CommandWords, command_line};
 pub use guests::GuestWords;
 pub use judgings::Judging;
-pub use limits::Limits;
 pub use names::CommandName;
 #[doc(hidden)]
 pub use option_words::OptionWord;
 #[doc(hidden)]
 pub use parts::Parts;
 pub use runs::{ManyRunsWords, RunWords};
+pub use settings::{BoundSettings, CheckSettings, RunSettings};
 pub use tellings::Telling;

@@ -4,17 +4,11 @@ use Rattle.elf32_loader.specs.Pictures.{Picture}
 use Rattle.elf32_loader.specs.Programs.{IsImage}
 use Rattle.enclosure_regions.specs.declared.region_parts.Region.{Region}
 use Rattle.enclosure_regions.specs.Reading.{Spells}
-use Rattle.command_line.specs.CommandLines.{GuestNames}
+use Rattle.command_line.specs.CommandLines.{GuestFiles}
 use Rattle.command_tasks.specs.declared.kinds.FileKind.TheVariants as kinds
 use Rattle.command_tasks.specs.declared.refusals.Refusal.{Refusal}
 use Rattle.command_tasks.specs.Loading.{Want, want}
 use Rattle.command_tasks.specs.Refusals.{IsProgramRefusal, IsRegionsRefusal}
-
--- its program, its public input, and its region file, where one is named
-pub record GuestFiles : Type 0 where
-  pub program : List ℕ
-  pub public_input : List ℕ
-  pub region_file : Option (List ℕ)
 
 -- its image, its public input, and its regions
 pub record Guest : Type 0 where
@@ -56,14 +50,14 @@ secret_wants [] = []
 secret_wants (name ∷ names) = want name kinds.Secret ∷ secret_wants names
 
 -- the program and the public input, some more files, the region file where one is named, and secrets
-abbrev pub guest_wants : GuestNames → List Want → List (List ℕ) → List Want
+abbrev pub guest_wants : GuestFiles → List Want → List (List ℕ) → List Want
 guest_wants guest more secrets =
     want guest.program kinds.Program ∷ want guest.public_input kinds.PublicInput
     ∷ more ++ (region_wants guest.region_file ++ secret_wants secrets)
 
 -- the files of a guest, some more files, and secrets, in the order of these loads; the region file is there exactly
 -- where it is named
-pub record AreGuestFiles (names : GuestNames) (files : List (List ℕ)) (guest : GuestFiles)
+pub record AreGuestFiles (names : GuestFiles) (files : List (List ℕ)) (guest : GuestFiles)
     (more secrets : List (List ℕ)) : Type 0 where
   pub are : files ≡ guest.program ∷ guest.public_input ∷ more ++ and_others guest.region_file secrets
   pub named : is_some guest.region_file ≡ is_some names.region_file

@@ -2,9 +2,7 @@
 use Rattle.std.specs.Prelude.{◌≡◌, ◌≤◌, true, ℕ, List, length, All}
 use Rattle.cut_file.specs.Pictures.{cut_picture}
 use Rattle.elf32_loader.specs.Images.{image_picture}
-use Rattle.lockstep_replay.specs.Tasks.{Limits as CheckLimits}
-use Rattle.command_line.specs.declared.limits.Limits.{Limits}
-use Rattle.command_line.specs.CommandLines.{highest_turns, has_table}
+use Rattle.command_line.specs.CommandLines.{highest_budget, has_table}
 use Rattle.command_tasks.specs.declared.guests.Guest.{Guest as ReadGuest}
 use Rattle.command_tasks.specs.declared.tasks.AllSecretsTask.{AllSecretsTask as ReadAllSecrets}
 use Rattle.command_tasks.specs.declared.tasks.CheckTask.{CheckTask as ReadCheck}
@@ -24,39 +22,22 @@ guest_in guest = record {
   regions = guest.regions.items;
 }
 
-abbrev pub limits_in : Limits → CheckLimits
-limits_in limits = record { budget = limits.budget; turns = limits.turns }
-
 abbrev pub check_in : ReadCheck → CheckTask
 check_in check = record {
   guest = guest_in check.guest;
   cut = cut_picture check.cut;
   secrets = check.secrets.now;
-  limits = limits_in check.limits;
-  judging = check.judging;
+  settings = check.settings;
 }
 
 abbrev pub all_secrets_in : ReadAllSecrets → AllSecretsTask
-all_secrets_in all = record {
-  guest = guest_in all.guest;
-  cut = cut_picture all.cut;
-  limits = limits_in all.limits;
-  table = all.table;
-  paths = all.paths;
-  any_public = all.any_public;
-  listed = all.listed;
-}
+all_secrets_in all = record { guest = guest_in all.guest; cut = cut_picture all.cut; settings = all.settings }
 
 abbrev pub run_in : ReadRun → RunTask
-run_in run = record { guest = guest_in run.guest; secret = run.secret.now; turns = run.turns; table = run.table }
+run_in run = record { guest = guest_in run.guest; secret = run.secret.now; settings = run.settings }
 
 abbrev pub many_runs_in : ReadManyRuns → ManyRunsTask
-many_runs_in runs = record {
-  guest = guest_in runs.guest;
-  secrets = runs.secrets.now;
-  turns = runs.turns;
-  table = runs.table;
-}
+many_runs_in runs = record { guest = guest_in runs.guest; secrets = runs.secrets.now; settings = runs.settings }
 
 abbrev pub task_in : ReadTask → Task
 task_in (tasks.JudgeSecrets check) = JudgeSecrets (check_in check)
@@ -75,32 +56,34 @@ task_in (tasks.TryNumber number) = TryNumber number
 abbrev pub AreShort : List (List ℕ) → Type 0
 AreShort secrets = All (λ secret. length secret ≤ 65536) secrets
 
--- the secrets are within their limits, and a table is 1, 2 or 3
+-- the secrets and the bits are within their limits, and a table is 1, 2 or 3
 pub record IsBoundedCheck (check : ReadCheck) : Type 0 where
+  pub few : check.settings.budget ≤ highest_budget
   pub secrets : AreShort check.secrets.now
-  pub known : has_table check.judging ≡ true
+  pub known : has_table check.settings.judging ≡ true
 
--- a walk may be made, and the table is 1, 2 or 3
+-- the bits are within their limit, a walk may be made, and the table is 1, 2 or 3
 pub record IsBoundedAll (all : ReadAllSecrets) : Type 0 where
-  pub some : 1 ≤ all.paths
-  pub first : 1 ≤ all.table
-  pub last : all.table ≤ 3
+  pub few : all.settings.budget ≤ highest_budget
+  pub some : 1 ≤ all.settings.paths
+  pub first : 1 ≤ all.settings.table
+  pub last : all.settings.table ≤ 3
 
 -- the secret and the turns are within their limits, and the table is 1, 2 or 3
 pub record IsBoundedRun (run : ReadRun) : Type 0 where
   pub secret : length run.secret.now ≤ 65536
-  pub turns : run.turns ≤ highest_turns
-  pub first : 1 ≤ run.table
-  pub last : run.table ≤ 3
+  pub turns : run.settings.turns ≤ 20000000
+  pub first : 1 ≤ run.settings.table
+  pub last : run.settings.table ≤ 3
 
 -- there are 1 to 64 secrets, each within its limit, the turns are within theirs, and the table is 1, 2 or 3
 pub record AreBoundedRuns (runs : ReadManyRuns) : Type 0 where
   pub secrets : AreShort runs.secrets.now
   pub some : 1 ≤ length runs.secrets.now
   pub most : length runs.secrets.now ≤ 64
-  pub turns : runs.turns ≤ highest_turns
-  pub first : 1 ≤ runs.table
-  pub last : runs.table ≤ 3
+  pub turns : runs.settings.turns ≤ 20000000
+  pub first : 1 ≤ runs.settings.table
+  pub last : runs.settings.table ≤ 3
 
 -- what is read is within the limits of what answers it
 abbrev pub IsLimitedTask : ReadTask → Type 0

@@ -1,7 +1,7 @@
 //! The loaded files of a command, each by what it is for.
 
-ghost use Rattle.std.specs.Prelude.{◌≡◌, ◌≤◌, ◌++◌, ◌∷◌, [], ℕ, List as Seq, Option as Maybe, length, is_some, option_map};
-ghost use Rattle.command_line.specs.Words.{check_of, guest_of, many_runs_of};
+ghost use Rattle.std.specs.Prelude.{◌≡◌, ◌≤◌, ◌++◌, ◌∷◌, [], ℕ, List as Seq, Option as Maybe, length, map, is_some, option_map};
+ghost use Rattle.command_line.specs.Words.{guest_of};
 ghost use Rattle.command_tasks.specs.FileLimits.{limit_of};
 ghost use Rattle.command_tasks.specs.Guests.{AreGuestFiles, and_others, guest_wants, region_wants, secret_wants};
 ghost use Rattle.command_tasks.specs.Loading.{AreWithin, Want, want};
@@ -39,7 +39,7 @@ pub fn files_of_check<'a>(
     files: &'a [Bytes],
 ) -> (GuestFiles<'a>, &'a Bytes, &'a [Bytes])
     requires within { AreWithin (guest_wants (guest_of check.now.guest) (want check.now.cut.now kinds.Cut ∷ [])
-        (check_of check.now).secrets) files.now }
+        (map (λ word. word.now) check.now.secrets)) files.now }
     ensures are { AreGuestFiles (guest_of check.now.guest) files.entry.now (files_in result.0) (result.1.now ∷ [])
         result.2.now }
     ensures program { length result.0.program.now ≤ 16777216 }
@@ -111,7 +111,7 @@ pub fn files_of_many_runs<'a>(
     runs: &ManyRunsWords,
     files: &'a [Bytes],
 ) -> (GuestFiles<'a>, &'a [Bytes])
-    requires within { AreWithin (guest_wants (guest_of runs.now.guest) [] (many_runs_of runs.now).secrets) files.now }
+    requires within { AreWithin (guest_wants (guest_of runs.now.guest) [] (map (λ word. word.now) runs.now.secrets)) files.now }
     ensures are { AreGuestFiles (guest_of runs.now.guest) files.entry.now (files_in result.0) [] result.1.now }
     ensures program { length result.0.program.now ≤ 16777216 }
     ensures short { AreShort result.1.now }

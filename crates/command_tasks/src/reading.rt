@@ -1,22 +1,22 @@
 //! What a command line asks for, as it is read of its words and its files.
 
-ghost use Rattle.std.specs.Prelude.{◌≡◌, ◌≢◌, ◌≤◌, ◌∷◌, [], Ok as Fine, length, option_map, IfErr, IfOk};
+ghost use Rattle.std.specs.Prelude.{◌≡◌, ◌≢◌, ◌≤◌, ◌∷◌, [], Ok as Fine, length, map, option_map, IfErr, IfOk};
 ghost use Rattle.cut_file.specs.Pictures.{cut_picture};
 ghost use Rattle.cut_file.specs.Texts.{CutText};
 ghost use Rattle.elf32_loader.specs.Images.{image_picture};
 ghost use Rattle.elf32_loader.specs.Programs.{IsImage};
 ghost use Rattle.rv32im_asm.specs.Assembling.{assembled};
-ghost use Rattle.command_line.specs.Words.{all_secrets_of, check_of, command_of, guest_of, many_runs_of, run_of};
+ghost use Rattle.command_line.specs.Words.{command_of, guest_of};
 ghost use Rattle.command_tasks.specs.Guests.{AreRegions, IsGuest, IsGuestRefusal, guest_wants};
 ghost use Rattle.command_tasks.specs.Loading.{AreWithin, want};
-ghost use Rattle.command_tasks.specs.ReadTasks.{IsBoundedCheck, IsBoundedRun, IsLimitedTask, check_in, guest_in};
-ghost use Rattle.command_tasks.specs.ReadTasks.{IsBoundedAll, all_secrets_in, AreBoundedRuns, many_runs_in, run_in};
+ghost use Rattle.command_tasks.specs.ReadTasks.{IsBoundedCheck, IsBoundedRun, IsLimitedTask, guest_in};
+ghost use Rattle.command_tasks.specs.ReadTasks.{AreBoundedRuns, IsBoundedAll};
 ghost use Rattle.command_tasks.specs.ReadTasks.{task_in};
 ghost use Rattle.command_tasks.specs.Private.LoadedFiles.{files_in};
 ghost use Rattle.command_tasks.specs.Refusals.{IsCertificateRefusal, IsCutRefusal, IsProgramRefusal, IsRegionsRefusal};
 ghost use Rattle.command_tasks.specs.Refusals.{IsSourceRefusal};
-ghost use Rattle.command_tasks.specs.Tasks.{IsAllSecretsTask, IsCheckTask, IsCutFilesRefusal, IsFormRefusal};
-ghost use Rattle.command_tasks.specs.Tasks.{IsGuestFilesRefusal, IsManyRunsTask, IsRunTask, IsTaskOf};
+ghost use Rattle.command_tasks.specs.Tasks.{AreCutFiles, AreRunFiles, IsCutFilesRefusal, IsFormRefusal};
+ghost use Rattle.command_tasks.specs.Tasks.{IsGuestFilesRefusal, IsTaskOf};
 ghost use Rattle.command_tasks.specs.Tasks.{wants_of};
 ghost use Rattle.command_tasks.specs.CertificateFiles.{IsCertificate};
 ghost use Rattle.command_tasks.specs.declared.kinds.FileKind.TheVariants as kinds;
@@ -108,10 +108,11 @@ fn read_check<'a>(
     files: &'a [Bytes],
 ) -> Result<CheckTask<'a>, Refusal>
     requires within { AreWithin (guest_wants (guest_of check.now.guest) (want check.now.cut.now kinds.Cut ∷ [])
-        (check_of check.now).secrets) files.now }
-    ensures ok { IfOk result (λ task. IsCheckTask (check_of check.now) files.entry.now (check_in task)) }
+        (map (λ word. word.now) check.now.secrets)) files.now }
+    ensures ok { IfOk result (λ task. AreCutFiles (guest_of check.now.guest) files.entry.now (guest_in task.guest) (cut_picture task.cut) task.secrets.now) }
+    ensures settings { IfOk result (λ task. task.settings ≡ check.now.settings) }
     ensures bounded { IfOk result (λ task. IsBoundedCheck task) }
-    ensures err { IfErr result (λ refusal. refusal ≢ Memory → IsCutFilesRefusal (check_of check.now).guest files.entry.now
+    ensures err { IfErr result (λ refusal. refusal ≢ Memory → IsCutFilesRefusal (guest_of check.now.guest) files.entry.now
         refusal) }
 {
     let (guest, cut, secrets) = files_of_check(check, files);
@@ -121,8 +122,7 @@ fn read_check<'a>(
         guest,
         cut,
         secrets,
-        limits: check.limits,
-        judging: check.judging,
+        settings: check.settings,
     })
 }
 
@@ -134,9 +134,10 @@ fn read_all_secrets<'a>(
 ) -> Result<AllSecretsTask<'a>, Refusal>
     requires within { AreWithin (guest_wants (guest_of all.now.guest) (want all.now.cut.now kinds.Cut ∷ []) [])
         files.now }
-    ensures ok { IfOk result (λ task. IsAllSecretsTask (all_secrets_of all.now) files.entry.now (all_secrets_in task)) }
+    ensures ok { IfOk result (λ task. AreCutFiles (guest_of all.now.guest) files.entry.now (guest_in task.guest) (cut_picture task.cut) []) }
+    ensures settings { IfOk result (λ task. task.settings ≡ all.now.settings) }
     ensures bounded { IfOk result (λ task. IsBoundedAll task) }
-    ensures err { IfErr result (λ refusal. refusal ≢ Memory → IsCutFilesRefusal (all_secrets_of all.now).guest
+    ensures err { IfErr result (λ refusal. refusal ≢ Memory → IsCutFilesRefusal (guest_of all.now.guest)
         files.entry.now refusal) }
 {
     let (guest, cut) = files_of_all_secrets(all, files);
@@ -145,18 +146,15 @@ fn read_all_secrets<'a>(
     Ok(AllSecretsTask {
         guest,
         cut,
-        limits: all.limits,
-        table: all.table,
-        paths: all.paths,
-        any_public: all.any_public,
-        listed: all.listed,
+        settings: all.settings,
     })
 }
 
 /// The run that is to be told of.
 fn read_run<'a>(alloc: Global, run: &RunWords, files: &'a [Bytes]) -> Result<RunTask<'a>, Refusal>
     requires within { AreWithin (guest_wants (guest_of run.now.guest) [] (run.now.secret.now ∷ [])) files.now }
-    ensures ok { IfOk result (λ task. IsRunTask (run_of run.now) files.entry.now (run_in task)) }
+    ensures ok { IfOk result (λ task. AreRunFiles (guest_of run.now.guest) files.entry.now (guest_in task.guest) (task.secret.now ∷ [])) }
+    ensures settings { IfOk result (λ task. task.settings ≡ run.now.settings) }
     ensures bounded { IfOk result (λ task. IsBoundedRun task) }
     ensures err { IfErr result (λ refusal. refusal ≢ Memory → IsGuestFilesRefusal (guest_of run.now.guest) files.entry.now
         refusal) }
@@ -166,8 +164,7 @@ fn read_run<'a>(alloc: Global, run: &RunWords, files: &'a [Bytes]) -> Result<Run
     Ok(RunTask {
         guest,
         secret,
-        turns: run.turns,
-        table: run.table,
+        settings: run.settings,
     })
 }
 
@@ -177,8 +174,9 @@ fn read_many_runs<'a>(
     runs: &ManyRunsWords,
     files: &'a [Bytes],
 ) -> Result<ManyRunsTask<'a>, Refusal>
-    requires within { AreWithin (guest_wants (guest_of runs.now.guest) [] (many_runs_of runs.now).secrets) files.now }
-    ensures ok { IfOk result (λ task. IsManyRunsTask (many_runs_of runs.now) files.entry.now (many_runs_in task)) }
+    requires within { AreWithin (guest_wants (guest_of runs.now.guest) [] (map (λ word. word.now) runs.now.secrets)) files.now }
+    ensures ok { IfOk result (λ task. AreRunFiles (guest_of runs.now.guest) files.entry.now (guest_in task.guest) task.secrets.now) }
+    ensures settings { IfOk result (λ task. task.settings ≡ runs.now.settings) }
     ensures bounded { IfOk result (λ task. AreBoundedRuns task) }
     ensures err { IfErr result (λ refusal. refusal ≢ Memory → IsGuestFilesRefusal (guest_of runs.now.guest) files.entry.now
         refusal) }
@@ -188,8 +186,7 @@ fn read_many_runs<'a>(
     Ok(ManyRunsTask {
         guest,
         secrets,
-        turns: runs.turns,
-        table: runs.table,
+        settings: runs.settings,
     })
 }
 

@@ -1,5 +1,5 @@
 use crate::guests::Guest;
-use command_line::{Judging, Limits, Telling};
+use command_line::{BoundSettings, CheckSettings, RunSettings, Telling};
 use cut_file::Cut;
 use elf32_loader::Image;
 use flow_base::Bytes;
@@ -14,10 +14,8 @@ pub struct CheckTask<'a> {
     pub cut: Cut,
     /// The secrets.
     pub secrets: &'a [Bytes],
-    /// The limits of bits and of turns.
-    pub limits: Limits,
-    /// By what they are judged.
-    pub judging: Judging,
+    /// The limits of bits and of turns, and by what they are judged.
+    pub settings: CheckSettings,
 }
 
 /// All secrets of a guest, whose outputs are to be bounded.
@@ -27,16 +25,8 @@ pub struct AllSecretsTask<'a> {
     pub guest: Guest<'a>,
     /// The cut.
     pub cut: Cut,
-    /// The limits of bits and of turns.
-    pub limits: Limits,
-    /// The table of the mask rules.
-    pub table: u32,
-    /// The number of walks that are made at most.
-    pub paths: u32,
-    /// Whether the public input is unknown too, with its length alone given.
-    pub any_public: bool,
-    /// Whether each pattern of outputs is listed.
-    pub listed: bool,
+    /// The limits, the table of the mask rules, and what is wanted beside the bound.
+    pub settings: BoundSettings,
 }
 
 /// A run of a guest that is to be told of.
@@ -46,10 +36,8 @@ pub struct RunTask<'a> {
     pub guest: Guest<'a>,
     /// The secret.
     pub secret: &'a Bytes,
-    /// The number of turns within which the run exits.
-    pub turns: u32,
-    /// The table of the mask rules by which it is measured.
-    pub table: u32,
+    /// The limit of turns, and the table of the mask rules by which it is measured.
+    pub settings: RunSettings,
 }
 
 /// Runs of a guest that are to be measured together.
@@ -59,10 +47,8 @@ pub struct ManyRunsTask<'a> {
     pub guest: Guest<'a>,
     /// The secrets.
     pub secrets: &'a [Bytes],
-    /// The number of turns within which each run exits.
-    pub turns: u32,
-    /// The table of the mask rules by which they are measured.
-    pub table: u32,
+    /// The limit of turns of each run, and the table of the mask rules by which they are measured.
+    pub settings: RunSettings,
 }
 
 /// What a command line and its files ask for.

@@ -166,7 +166,7 @@ all_made all answer (inl h) = bound_made all (bound_of all) answer h
 all_made all answer (inr (bits, more, e)) = inl (low_as answer _ e (omega arith))
 
 task_made : (task : Task) (answer : Answer) → AnswersTask task answer → IsMade answer
-task_made (JudgeSecrets task) answer h = check_made task.judging task answer h
+task_made (JudgeSecrets task) answer h = check_made task.settings.judging task answer h
 task_made (BoundAll all) answer h = all_made all answer h
 task_made (TellRun telling run) answer h = telling_made telling run answer h
 task_made (MeasureAll version runs) answer h = many_made version runs answer h

@@ -1,8 +1,8 @@
 -- The status of what is wrong with a file of a command.
 use Rattle.std.proofs.Common.{◌≡◌, ◌⊎◌, inl, inr, ℕ, List, Option, Some, None, Err, ap}
-use Rattle.command_line.specs.CommandLines.{Bounds, Command, Checks, Tells, MeasuresAll, Assembles, Lists, Verifies, Migrates, Tries}
+use Rattle.command_line.specs.CommandLines.{Bounds, Command, Checks, GuestFiles, Tells, MeasuresAll, Assembles, Lists, Verifies, Migrates, Tries}
 use Rattle.command_tasks.specs.declared.refusals.Refusal.{Refusal}
-use Rattle.command_tasks.specs.Guests.{Guest, GuestFiles, IsGuest, IsGuestRefusal}
+use Rattle.command_tasks.specs.Guests.{Guest, IsGuest, IsGuestRefusal}
 use Rattle.command_tasks.specs.Refusals.{IsCutRefusal, IsRegionsRefusal}
 use Rattle.command_tasks.specs.Tasks.{IsFormRefusal}
 use Rattle.commands.proofs.Readings.{status_of}
@@ -29,10 +29,10 @@ first_status guest_files cut_file refusal (inr (guest, also, (fault, first, e)))
 
 pub form_status : (command : Command) (files : List (List ℕ)) (refusal : Refusal) →
     IsFormRefusal command files refusal → status_of (Err refusal) ≡ 3
-form_status (Checks check) files refusal is = first_status is.guest_files is.cut_file refusal is.first
-form_status (Bounds all) files refusal is = first_status is.guest_files is.cut_file refusal is.first
-form_status (Tells telling run) files refusal is = guest_status is.guest_files refusal is.first
-form_status (MeasuresAll version runs) files refusal is = guest_status is.guest_files refusal is.first
+form_status (Checks guest cut secrets settings) files refusal is = first_status is.guest_files is.cut_file refusal is.first
+form_status (Bounds guest cut settings) files refusal is = first_status is.guest_files is.cut_file refusal is.first
+form_status (Tells telling guest secret settings) files refusal is = guest_status is.guest_files refusal is.first
+form_status (MeasuresAll version guest secrets settings) files refusal is = guest_status is.guest_files refusal is.first
 form_status (Assembles source) files refusal (file, are, (fault, first, e)) = ap (λ r. status_of (Err r)) e
 form_status (Lists program) files refusal (file, are, (fault, first, e)) = ap (λ r. status_of (Err r)) e
 form_status (Verifies certificate) files refusal (file, are, (fault, first, e)) = ap (λ r. status_of (Err r)) e

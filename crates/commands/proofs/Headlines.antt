@@ -15,13 +15,14 @@ use Rattle.lockstep_replay.proofs.Causes.{causes_law}
 use Rattle.many_runs.specs.declared.many.Many.{Many}
 use Rattle.many_runs.specs.Accepting.{HasAccepted}
 use Rattle.measuring.specs.declared.measured.Measured.{Measured}
+use Rattle.command_line.specs.declared.settings.RunSettings.{RunSettings}
 use Rattle.command_line.specs.declared.tellings.Telling.{Telling}
-use Rattle.command_line.specs.declared.tellings.Telling.TheVariants.{CutText, Certificate, Report, Declaration}
-use Rattle.command_line.specs.CommandLines.{Run, Command, Bounds, Checks, Tells, MeasuresAll, Assembles, Lists, Verifies, Migrates, Tries}
-use Rattle.command_tasks.specs.Tasks.{RunTask, ManyRunsTask, Task, IsRunTask, IsTaskOf, wants_of}
+use Rattle.command_line.specs.declared.tellings.Telling.TheVariants.{CutText}
+use Rattle.command_line.specs.CommandLines.{GuestFiles, Command, Bounds, Checks, Tells, MeasuresAll, Assembles, Lists, Verifies, Migrates, Tries}
+use Rattle.command_tasks.specs.Tasks.{RunTask, ManyRunsTask, Task, AreRunFiles, IsTaskOf, wants_of}
 use Rattle.command_tasks.specs.Loading.{Loads}
 use Rattle.task_answers.specs.Answers.{Answer}
-use Rattle.task_answers.specs.Checks.{judged_by}
+use Rattle.task_answers.specs.Checks.{judged_by, limits_of}
 use Rattle.task_answers.specs.Runs.{IsMeasured}
 use Rattle.task_answers.specs.CutTexts.{IsCutText, IsInVersion}
 use Rattle.task_answers.specs.ManyRuns.{AreMeasured}
@@ -60,12 +61,12 @@ headline task limits = record {
 
 accepted_in : (run : RunTask) (measured : Measured) (version : ℕ) (cut : CutPicture) → IsMeasured run measured →
     IsInVersion version (cut_picture measured.cut) cut → (b : Bool) → (version == 2) ≡ b →
-    HasAccepted (judged_by run.guest cut) (record { budget = measured.value; turns = run.turns }) run.secret
+    HasAccepted (judged_by run.guest cut) (record { budget = measured.value; turns = run.settings.turns }) run.secret
 accepted_in run measured version cut is in_version true e =
     (measured.output, is.folds cut (rw e at in_version))
 accepted_in run measured version cut is in_version false e =
     let same : cut ≡ cut_picture measured.cut = rw e at in_version in
-    subst (λ c. HasAccepted (judged_by run.guest c) (record { budget = measured.value; turns = run.turns }) run.secret)
+    subst (λ c. HasAccepted (judged_by run.guest c) (record { budget = measured.value; turns = run.settings.turns }) run.secret)
     (sym same) (measured.output, is.accepted)
 
 bits_in : (run : RunTask) (measured : Measured) (version : ℕ) (cut : CutPicture) → IsMeasured run measured →
@@ -89,44 +90,42 @@ short_in run measured version text cut is in_version spells false e =
 low_bits : (bits value secret : ℕ) → bits ≡ value → value ≤ 8 * secret → secret ≤ 65536 → bits ≤ 1048576
 low_bits bits value secret e few short = omega arith
 
-cut_headline : (source : Option Told) (version : ℕ) (telling : Telling) (run : Run) (files : List (List ℕ)) (task : RunTask)
-    (measured : Measured) (text : List ℕ) → Loads source (wants_of (Tells telling run)) (Ok files) →
-    IsRunTask run files task → IsMeasured task measured → (printed : IsCutText version (cut_picture measured.cut) text) →
-    MeasuredHeadline task.guest (task.secret ∷ []) task.turns measured.value printed.cut text
-cut_headline source version telling run files task measured text loads is measure printed =
+cut_headline : (source : Option Told) (version : ℕ) (telling : Telling) (guest : GuestFiles) (secret : List ℕ) (settings : RunSettings) (files : List (List ℕ)) (task : RunTask)
+    (measured : Measured) (text : List ℕ) → Loads source (wants_of (Tells telling guest secret settings)) (Ok files) →
+    AreRunFiles guest files task.guest (task.secret ∷ []) → IsMeasured task measured → (printed : IsCutText version (cut_picture measured.cut) text) →
+    MeasuredHeadline task.guest (task.secret ∷ []) task.settings.turns measured.value printed.cut text
+cut_headline source version telling guest secret settings files task measured text loads is measure printed =
     let bits = bits_in task measured version printed.cut measure printed.in_version (version == 2) refl in
     record {
       bits = bits;
       accepted = (
-        subst (λ v. HasAccepted (judged_by task.guest printed.cut) (record { budget = v; turns = task.turns }) task.secret)
+        subst (λ v. HasAccepted (judged_by task.guest printed.cut) (record { budget = v; turns = task.settings.turns }) task.secret)
             (sym bits) (accepted_in task measured version printed.cut measure printed.in_version (version == 2) refl),
         tt,
       );
       budget =
           low_bits printed.cut.bits measured.value (length task.secret) bits measure.few
-          (secret_short run.guest run.secret task.secret files is.guest_files is.are loads.0);
+          (secret_short guest secret task.secret files is.guest_files is.are loads.0);
       short =
           short_in task measured version text printed.cut measure printed.in_version printed.is_text (version == 2) refl;
     }
 
-told_headline : (source : Option Told) (telling : Telling) (run : Run) (files : List (List ℕ)) (task : RunTask)
-    (text : List ℕ) → Loads source (wants_of (Tells telling run)) (Ok files) → IsRunTask run files task →
+told_headline : (source : Option Told) (telling : Telling) (guest : GuestFiles) (secret : List ℕ) (settings : RunSettings) (files : List (List ℕ)) (task : RunTask)
+    (text : List ℕ) → Loads source (wants_of (Tells telling guest secret settings)) (Ok files) → AreRunFiles guest files task.guest (task.secret ∷ []) →
     TellingCarries telling task text
-told_headline source (CutText version) run files task text loads is = λ measured measure printed.
-    cut_headline source version (CutText version) run files task measured text loads is measure printed
-told_headline source Certificate run files task text loads is = tt
-told_headline source (Report json) run files task text loads is = tt
-told_headline source Declaration run files task text loads is = tt
+told_headline source (CutText version) guest secret settings files task text loads is = λ measured measure printed.
+    cut_headline source version (CutText version) guest secret settings files task measured text loads is measure printed
+told_headline source telling guest secret settings files task text loads is = tt
 
 -- ---- several runs
 
 accepted_all_in : (runs : ManyRunsTask) (many : Many) (version : ℕ) (cut : CutPicture) → AreMeasured runs many →
     IsInVersion version (cut_picture many.cut) cut → (b : Bool) → (version == 2) ≡ b →
-    AllByRecursion (HasAccepted (judged_by runs.guest cut) (record { budget = many.value; turns = runs.turns })) runs.secrets
+    AllByRecursion (HasAccepted (judged_by runs.guest cut) (record { budget = many.value; turns = runs.settings.turns })) runs.secrets
 accepted_all_in runs many version cut are in_version true e = are.folds cut (rw e at in_version)
 accepted_all_in runs many version cut are in_version false e =
     let same : cut ≡ cut_picture many.cut = rw e at in_version in
-    subst (λ c. AllByRecursion (HasAccepted (judged_by runs.guest c) (record { budget = many.value; turns = runs.turns }))
+    subst (λ c. AllByRecursion (HasAccepted (judged_by runs.guest c) (record { budget = many.value; turns = runs.settings.turns }))
     runs.secrets) (sym same) are.accepted
 
 bits_all_in : (runs : ManyRunsTask) (many : Many) (version : ℕ) (cut : CutPicture) → AreMeasured runs many →
@@ -152,14 +151,14 @@ low_as_budget bits value e low = omega arith
 
 many_headline : (version : ℕ) (task : ManyRunsTask) (many : Many) (text : List ℕ) → AreMeasured task many →
     (printed : IsCutText version (cut_picture many.cut) text) →
-    MeasuredHeadline task.guest task.secrets task.turns many.value printed.cut text
+    MeasuredHeadline task.guest task.secrets task.settings.turns many.value printed.cut text
 many_headline version task many text are printed =
     let bits = bits_all_in task many version printed.cut are printed.in_version (version == 2) refl in
     record {
       bits = bits;
       accepted =
           subst (λ v. AllByRecursion (HasAccepted (judged_by task.guest printed.cut)
-          (record { budget = v; turns = task.turns })) task.secrets) (sym bits)
+          (record { budget = v; turns = task.settings.turns })) task.secrets) (sym bits)
           (accepted_all_in task many version printed.cut are printed.in_version (version == 2) refl);
       budget = low_as_budget printed.cut.bits many.value bits are.measures.budget;
       short =
@@ -170,12 +169,12 @@ many_headline version task many text are printed =
 
 task_headline : (source : Option Told) (command : Command) (files : List (List ℕ)) (task : Task) (text : List ℕ) →
     Loads source (wants_of command) (Ok files) → IsTaskOf command files task → Carries task text
-task_headline source (Checks check) files task text loads (x, is, e) =
-    subst (λ t. Carries t text) (sym e) (headline (judged_by x.guest x.cut) x.limits)
-task_headline source (Bounds all) files task text loads (x, is, e) = subst (λ t. Carries t text) (sym e) tt
-task_headline source (Tells telling run) files task text loads (x, is, e) =
-    subst (λ t. Carries t text) (sym e) (told_headline source telling run files x text loads is)
-task_headline source (MeasuresAll version runs) files task text loads (x, is, e) =
+task_headline source (Checks guest cut secrets settings) files task text loads (x, is, same, e) =
+    subst (λ t. Carries t text) (sym e) (headline (judged_by x.guest x.cut) (limits_of x))
+task_headline source (Bounds guest cut settings) files task text loads (x, is, same, e) = subst (λ t. Carries t text) (sym e) tt
+task_headline source (Tells telling guest secret settings) files task text loads (x, is, same, e) =
+    subst (λ t. Carries t text) (sym e) (told_headline source telling guest secret settings files x text loads is)
+task_headline source (MeasuresAll version guest secrets settings) files task text loads (x, is, same, e) =
     subst (λ t. Carries t text) (sym e) (λ many are printed. many_headline version x many text are printed)
 task_headline source (Assembles file) files task text loads (x, y, are, is, e) = subst (λ t. Carries t text) (sym e) tt
 task_headline source (Lists file) files task text loads (x, y, are, is, e) = subst (λ t. Carries t text) (sym e) tt

@@ -1,9 +1,8 @@
 -- What is read is one thing, and where it is, nothing is wrong with it: so the answers to it are one, and are those to
 -- what it is known to be.
-use Rattle.std.proofs.Common.{◌≡◌, ◌≤◌, ◌<◌, ◌∙◌, inl, inr, ℕ, List, Option, Ok, Err, sym, ap, subst, arith}
+use Rattle.std.proofs.Common.{◌≡◌, ◌≤◌, ◌<◌, ◌∙◌, inl, inr, ℕ, List, Option, Some, None, Ok, Err, sym, ap, subst, arith}
 use Rattle.flow_base.specs.Loads.{Told}
-use Rattle.command_line.specs.CommandLines.{Command, IsCommand, IsNoCommand}
-use Rattle.command_line.proofs.OneCommand.{one_command}
+use Rattle.command_line.specs.CommandLines.{Command, IsCommand, IsNoCommand, command_in}
 use Rattle.command_tasks.specs.declared.refusals.Refusal.{Refusal}
 use Rattle.command_tasks.specs.declared.refusals.Refusal.TheVariants.{Usage}
 use Rattle.command_tasks.specs.Loading.{Loads}
@@ -89,9 +88,15 @@ reads_words source words answer (inl (refusal, inr (command, named, inr (files, 
 reads_words source words answer (inr it) =
     inr (it.command, it.named, inr (it.files, it.loads, inr (it.task, it.spelled, it.answers)))
 
+one_command : (read : Option Command) (a b : Command) → read ≡ Some a → read ≡ Some b → a ≡ b
+one_command read a b one other = cc
+
+no_command : (read : Option Command) (command : Command) → read ≡ Some command → read ≡ None → ⊥
+no_command read command is none = cc
+
 pub words_reading : (words : List (List ℕ)) → IsReading Command (IsCommand words) (IsUsage words)
 words_reading words = record {
-  one = one_command words;
-  none = λ command refusal is (none, e). none command is;
+  one = one_command (command_in words);
+  none = λ command refusal is (none, e). no_command (command_in words) command is none;
   refused = λ first second (none, e) (also, f). e ∙ sym f;
 }

@@ -1,11 +1,11 @@
 -- The secret of a run that is loaded is short.
 use Rattle.std.proofs.Common.{◌≡◌, ◌≤◌, ◌++◌, ℕ, List, [], ◌∷◌, length, Option, Some, None, is_some, sym, subst}
 use Rattle.std.proofs.lemmas.Bool.{false≢true}
-use Rattle.command_line.specs.CommandLines.{GuestNames}
-use Rattle.command_tasks.specs.Guests.{GuestFiles, AreGuestFiles, and_others, guest_wants, region_wants, secret_wants}
+use Rattle.command_line.specs.CommandLines.{GuestFiles}
+use Rattle.command_tasks.specs.Guests.{AreGuestFiles, and_others, guest_wants, region_wants, secret_wants}
 use Rattle.command_tasks.specs.Loading.{AreWithin}
 
-pub secret_short : (names : GuestNames) (name secret : List ℕ) (files : List (List ℕ)) (guest : GuestFiles) →
+pub secret_short : (names : GuestFiles) (name secret : List ℕ) (files : List (List ℕ)) (guest : GuestFiles) →
     AreGuestFiles names files guest [] (secret ∷ []) → AreWithin (guest_wants names [] (name ∷ [])) files →
     length secret ≤ 65536
 secret_short names name secret files guest are within =

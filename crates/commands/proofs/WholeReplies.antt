@@ -19,7 +19,7 @@ use Rattle.commands.proofs.FineAnswers.{command_fine}
 use Rattle.commands.proofs.FormStatuses.{form_status}
 use Rattle.commands.proofs.Headlines.{headline_of}
 use Rattle.commands.proofs.OneLine.{literal}
-use Rattle.commands.proofs.Readings.{ReadsWords, reads_words, status_of}
+use Rattle.commands.proofs.Readings.{ReadsWords, reads_words, status_of, words_reading}
 
 -- ---- the reply
 
@@ -41,7 +41,8 @@ usage_words source words answer (inr (command, named, h)) two =
 words_usage : (source : Option Told) (words : List (List ℕ)) (answer : Answer) → ReadsWords source words answer →
     IsNoCommand words → status_of answer ≡ 2
 words_usage source words answer (inl (refusal, (none, u), e)) other = ap status_of (usage_answer answer refusal e u)
-words_usage source words answer (inr (command, named, h)) other = absurd (other command named)
+words_usage source words answer (inr (command, named, h)) other =
+    absurd ((words_reading words).none command Usage named (other, refl))
 
 low_status : (source : Option Told) (words : List (List ℕ)) (answer : Answer) → ReadsWords source words answer →
     status_of answer ≤ 6

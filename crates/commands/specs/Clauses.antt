@@ -7,11 +7,10 @@ use Rattle.flow_base.specs.Puts.{Taken, after_put}
 use Rattle.many_runs.specs.declared.many.Many.{Many}
 use Rattle.measuring.specs.declared.measured.Measured.{Measured}
 use Rattle.command_line.specs.declared.tellings.Telling.{Telling}
-use Rattle.command_line.specs.declared.tellings.Telling.TheVariants.{CutText, Certificate, Report, Declaration}
+use Rattle.command_line.specs.declared.tellings.Telling.TheVariants.{CutText}
 use Rattle.command_line.specs.CommandLines.{IsNoCommand}
-use Rattle.command_tasks.specs.Tasks.{RunTask, Task, JudgeSecrets, BoundAll, TellRun, MeasureAll, WriteProgram}
-use Rattle.command_tasks.specs.Tasks.{ListProgram, VerifyCertificate, MigrateCut, TryNumber}
-use Rattle.task_answers.specs.Checks.{judged_by}
+use Rattle.command_tasks.specs.Tasks.{RunTask, Task, JudgeSecrets, TellRun, MeasureAll}
+use Rattle.task_answers.specs.Checks.{judged_by, limits_of}
 use Rattle.task_answers.specs.CutTexts.{IsCutText}
 use Rattle.task_answers.specs.ManyRuns.{AreMeasured}
 use Rattle.task_answers.specs.Runs.{IsMeasured}
@@ -24,24 +23,17 @@ use Rattle.commands.specs.Replies.{IsAnswered, Replies, Reply}
 abbrev pub TellingCarries : Telling → RunTask → List ℕ → Type 0
 TellingCarries (CutText version) run text =
     (measured : Measured) → IsMeasured run measured → (printed : IsCutText version (cut_picture measured.cut) text)
-    → MeasuredHeadline run.guest (run.secret ∷ []) run.turns measured.value printed.cut text
-TellingCarries Certificate run text = Unit {0}
-TellingCarries (Report json) run text = Unit {0}
-TellingCarries Declaration run text = Unit {0}
+    → MeasuredHeadline run.guest (run.secret ∷ []) run.settings.turns measured.value printed.cut text
+TellingCarries telling run text = Unit {0}
 
 -- the headline that a task and its text carry, beside what the answer to the task says
 abbrev pub Carries : Task → List ℕ → Type 0
-Carries (JudgeSecrets check) text = Headline (judged_by check.guest check.cut) check.limits
-Carries (BoundAll all) text = Unit {0}
+Carries (JudgeSecrets check) text = Headline (judged_by check.guest check.cut) (limits_of check)
 Carries (TellRun telling run) text = TellingCarries telling run text
 Carries (MeasureAll version runs) text =
     (many : Many) → AreMeasured runs many → (printed : IsCutText version (cut_picture many.cut) text)
-    → MeasuredHeadline runs.guest runs.secrets runs.turns many.value printed.cut text
-Carries (WriteProgram picture) text = Unit {0}
-Carries (ListProgram picture) text = Unit {0}
-Carries (VerifyCertificate graph solved) text = Unit {0}
-Carries (MigrateCut cut) text = Unit {0}
-Carries (TryNumber number) text = Unit {0}
+    → MeasuredHeadline runs.guest runs.secrets runs.settings.turns many.value printed.cut text
+Carries task text = Unit {0}
 
 -- The reply to words, by what the file source tells: its status is 2 exactly where they are no command line, its text is
 -- one line where it tells a refusal, with status 0 or 1 the words are answered, and the text of an answer carries the

@@ -18,10 +18,10 @@ telling_name (Report json) = codes "report"
 telling_name Declaration = codes "learn"
 
 abbrev pub name_of : Command → List ℕ
-name_of (Checks check) = judging_name check.judging
-name_of (Bounds all) = codes "bound"
-name_of (Tells telling run) = telling_name telling
-name_of (MeasuresAll version runs) = codes "measure-all"
+name_of (Checks guest cut secrets settings) = judging_name settings.judging
+name_of (Bounds guest cut settings) = codes "bound"
+name_of (Tells telling guest secret settings) = telling_name telling
+name_of (MeasuresAll version guest secrets settings) = codes "measure-all"
 name_of (Assembles source) = codes "asm"
 name_of (Lists program) = codes "list"
 name_of (Verifies certificate) = codes "verify"

@@ -34,7 +34,7 @@ fn name<'a>(command: &CommandWords<'_>) -> &'a str
     ensures { result.now ≡ name_of (command_of command.now) }
 {
     match command {
-        CommandWords::Check(check) => name_of_judging(check.judging),
+        CommandWords::Check(check) => name_of_judging(check.settings.judging),
         CommandWords::Bound(_) => "bound",
         CommandWords::Tell { telling, .. } => name_of_telling(*telling),
         CommandWords::MeasureAll { .. } => "measure-all",

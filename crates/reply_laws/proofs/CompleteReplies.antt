@@ -21,7 +21,7 @@ use Rattle.command_tasks.specs.Tasks.{IsFormRefusal, IsTaskOf, wants_of}
 use Rattle.command_tasks.specs.Loading.{loaded_from}
 use Rattle.command_tasks.specs.Statuses.{status_number}
 use Rattle.task_answers.specs.Answers.{Answer}
-use Rattle.task_answers.specs.Checks.{AnswersBy, judged_by, judgements_of}
+use Rattle.task_answers.specs.Checks.{AnswersBy, judged_by, judgements_of, limits_of}
 use Rattle.task_answers.specs.Tellings.{AnswersTelling, IsCertificateText, IsCutOfRun, IsReport, Tells}
 use Rattle.task_answers.specs.TaskAnswers.{AnswersTask}
 use Rattle.task_answers.specs.Texts.{accepted_count}
@@ -34,7 +34,8 @@ use Rattle.reply_laws.proofs.OneGuest.{RegionLaws}
 use Rattle.reply_laws.proofs.OneBound.{bound_completes}
 use Rattle.reply_laws.proofs.OneFinding.{taint_completes}
 use Rattle.reply_laws.proofs.OneLearning.{learning_completes}
-use Rattle.reply_laws.proofs.OneReply.{Decides, DecidesBy, certificate_completes, run_completes, task_decides}
+use Rattle.reply_laws.proofs.DecidingTables.{Decides, DecidesBy, task_decides}
+use Rattle.reply_laws.proofs.OneReply.{certificate_completes, run_completes}
 use Rattle.reply_laws.proofs.OneReply.{telling_done, trial_done}
 use Rattle.reply_laws.proofs.OneTask.{task_reading}
 use Rattle.reply_laws.proofs.OneUnion.{many_completes}
@@ -101,22 +102,22 @@ check_by task limits secrets false e = record {
 -- ---- every command
 
 replayed : (task : CheckTask) (answer : Answer) → AnswersBy Replay task answer →
-    CompletesCheck (judged_by task.guest task.cut) task.limits task.secrets (status_of answer)
+    CompletesCheck (judged_by task.guest task.cut) (limits_of task) task.secrets (status_of answer)
 replayed task answer e =
-    let judgements = judgements_of (judged_by task.guest task.cut) task.limits task.secrets in
+    let judgements = judgements_of (judged_by task.guest task.cut) (limits_of task) task.secrets in
     let counts : Bool = accepted_count judgements == length judgements in
     let status : status_number (if counts then Done else Rejected) ≡ status_of answer = ap status_of (sym e) in
-    subst (λ s. CompletesCheck (judged_by task.guest task.cut) task.limits task.secrets s) status
-    (check_by (judged_by task.guest task.cut) task.limits task.secrets counts refl)
+    subst (λ s. CompletesCheck (judged_by task.guest task.cut) (limits_of task) task.secrets s) status
+    (check_by (judged_by task.guest task.cut) (limits_of task) task.secrets counts refl)
 
 check_completes : (judging : Judging) (task : CheckTask) (answer : Answer) → DecidesBy judging →
     AnswersBy judging task answer →
-    CompletesBy judging (judged_by task.guest task.cut) task.limits task.secrets (status_of answer)
+    CompletesBy judging (judged_by task.guest task.cut) (limits_of task) task.secrets (status_of answer)
 check_completes Replay task answer deciding h = replayed task answer h
 check_completes (Masks table) task answer deciding h =
-    taint_completes table (judged_by task.guest task.cut) task.limits task.secrets answer deciding h
+    taint_completes table (judged_by task.guest task.cut) (limits_of task) task.secrets answer deciding h
 
-telling_completes : (telling : Telling) (run : RunTask) (answer : Answer) → IsDeciding run.table →
+telling_completes : (telling : Telling) (run : RunTask) (answer : Answer) → IsDeciding run.settings.table →
     AnswersTelling telling run answer → CompletesTelling telling run (status_of answer)
 telling_completes (CutText version) run answer deciding h =
     run_completes run (Tells (IsCutOfRun version)) (telling_done (IsCutOfRun version)) deciding answer h
@@ -128,7 +129,7 @@ telling_completes Declaration run answer deciding h = learning_completes run ans
 
 task_completes : (task : Task) (answer : Answer) → Decides task → AnswersTask task answer →
     Completes task (status_of answer)
-task_completes (JudgeSecrets task) answer deciding h = check_completes task.judging task answer deciding h
+task_completes (JudgeSecrets task) answer deciding h = check_completes task.settings.judging task answer deciding h
 task_completes (BoundAll all) answer deciding h = bound_completes all answer h
 task_completes (TellRun telling run) answer deciding h = telling_completes telling run answer deciding h
 task_completes (MeasureAll version runs) answer deciding h = many_completes version runs answer deciding h

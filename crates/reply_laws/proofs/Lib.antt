@@ -2,6 +2,7 @@ pub mod OneCertificate
 pub mod OneGuest
 pub mod OneTask
 pub mod OneFinding
+pub mod DecidingTables
 pub mod OneLearning
 pub mod CutTexts
 pub mod OneUnion

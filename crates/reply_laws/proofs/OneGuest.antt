@@ -11,10 +11,10 @@ use Rattle.enclosure_regions.specs.FileLaws.{FaultsAreOne, FilesAreOne, SpelledH
 use Rattle.cut_file.specs.Cuts.{CutPicture}
 use Rattle.cut_file.specs.Texts.{CutText}
 use Rattle.cut_file.proofs.FileTexts.{cut_no_fault, one_cut, one_fault}
-use Rattle.command_line.specs.CommandLines.{GuestNames}
+use Rattle.command_line.specs.CommandLines.{GuestFiles}
 use Rattle.command_tasks.specs.declared.refusals.Refusal.{Refusal}
 use Rattle.command_tasks.specs.declared.refusals.Refusal.TheVariants.{Program, Regions, Cut}
-use Rattle.command_tasks.specs.Guests.{Guest, GuestFiles, AreGuestFiles, AreRegions, IsGuest, IsGuestRefusal}
+use Rattle.command_tasks.specs.Guests.{Guest, AreGuestFiles, AreRegions, IsGuest, IsGuestRefusal}
 use Rattle.command_tasks.specs.Guests.{and_others}
 use Rattle.command_tasks.specs.Refusals.{IsCutRefusal, IsProgramRefusal, IsRegionsRefusal}
 use Rattle.commands.proofs.Readings.{IsReading}
@@ -135,7 +135,7 @@ pub record SameCheckFiles (a b : GuestFiles) (cut other : List ℕ) (rest more :
   pub cuts : cut ≡ other
   pub secrets : rest ≡ more
 
-pub same_check_files : (names : GuestNames) (files : List (List ℕ)) (a b : GuestFiles) (cut other : List ℕ)
+pub same_check_files : (names : GuestFiles) (files : List (List ℕ)) (a b : GuestFiles) (cut other : List ℕ)
     (rest more : List (List ℕ)) → AreGuestFiles names files a (cut ∷ []) rest →
     AreGuestFiles names files b (other ∷ []) more → SameCheckFiles a b cut other rest more
 same_check_files names files a b cut other rest more one two =
@@ -153,7 +153,7 @@ pub record SameRunFiles (a b : GuestFiles) (rest more : List (List ℕ)) : Type 
   pub guests : a ≡ b
   pub secrets : rest ≡ more
 
-pub same_run_files : (names : GuestNames) (files : List (List ℕ)) (a b : GuestFiles) (rest more : List (List ℕ)) →
+pub same_run_files : (names : GuestFiles) (files : List (List ℕ)) (a b : GuestFiles) (rest more : List (List ℕ)) →
     AreGuestFiles names files a [] rest → AreGuestFiles names files b [] more → SameRunFiles a b rest more
 same_run_files names files a b rest more one two =
     let are : a.program ∷ a.public_input ∷ and_others a.region_file rest

@@ -55,7 +55,7 @@ learning_same guest secret turns first second =
     (λ a b. a ≡ b) (λ answer. refl) (reading guest secret turns) first second
     (λ regions is (text, texts, spells, e) (words, also, spelt, f). e ∙ (ap done_by (texts ∙ sym also) ∙ sym f))
 
-pub learning_completes : (run : RunTask) (answer : Answer) → AnswersLearning run.guest run.secret run.turns answer →
+pub learning_completes : (run : RunTask) (answer : Answer) → AnswersLearning run.guest run.secret run.settings.turns answer →
     CompletesLearning run (status_of answer)
 learning_completes run answer (inl (refusal, (fault, refuses, e), f)) =
     let four : status_of answer ≡ 4 = ap status_of (f ∙ ap (λ r. Err r) e) in
@@ -69,6 +69,6 @@ learning_completes run answer (inr (regions, is, (text, texts, spells, e))) =
     record {
       known = inl zero;
       learnt = λ z. λ fault. λ refuses.
-          no_refusal (learnt_run run.guest run.secret run.turns) regions fault is.grants refuses;
+          no_refusal (learnt_run run.guest run.secret run.settings.turns) regions fault is.grants refuses;
       done = λ none. zero;
     }

@@ -21,14 +21,12 @@ use Rattle.measuring.specs.declared.measured.Measured.{Measured}
 use Rattle.measuring.proofs.OneCause.{one_cause}
 use Rattle.measuring.proofs.OneMeasure.{AreSameMeasures, one_measure, told_alike}
 use Rattle.measuring.proofs.MeasuredWithoutCause.{measured_have_no_cause}
-use Rattle.command_line.specs.declared.names.CommandName.{CommandName}
-use Rattle.command_line.specs.declared.names.CommandName.TheVariants as names
 use Rattle.command_line.specs.declared.judgings.Judging.{Judging}
 use Rattle.command_line.specs.declared.judgings.Judging.TheVariants.{Replay, Masks}
+use Rattle.command_line.specs.declared.settings.RunSettings.{RunSettings}
 use Rattle.command_line.specs.declared.tellings.Telling.{Telling}
 use Rattle.command_line.specs.declared.tellings.Telling.TheVariants.{CutText, Certificate, Report, Declaration}
-use Rattle.command_line.specs.CommandLines.{Run, Command, Checks, Bounds, Tells, MeasuresAll, Assembles, Lists, Verifies, Migrates, Tries, Fits, IsCommand, IsTable}
-use Rattle.command_line.specs.Parts.{Parts}
+use Rattle.command_line.specs.CommandLines.{GuestFiles, Command, Checks, Bounds, Tells, MeasuresAll, Assembles, Lists, Verifies, Migrates, Tries, IsCommand}
 use Rattle.command_tasks.specs.declared.refusals.Refusal.{Refusal}
 use Rattle.command_tasks.specs.declared.refusals.Refusal.TheVariants.{Run as RunRefused}
 use Rattle.command_tasks.specs.Tasks.{AllSecretsTask, CheckTask, RunTask, Task, BoundAll, JudgeSecrets, TellRun, MeasureAll}
@@ -36,7 +34,7 @@ use Rattle.command_tasks.specs.Tasks.{WriteProgram, ListProgram, VerifyCertifica
 use Rattle.command_tasks.specs.Tasks.{IsFormRefusal, IsTaskOf, wants_of}
 use Rattle.command_tasks.specs.Loading.{Loads, Want, loaded_from}
 use Rattle.task_answers.specs.Answers.{Answer, done_by}
-use Rattle.task_answers.specs.Checks.{AnswersBy, judged_by}
+use Rattle.task_answers.specs.Checks.{AnswersBy, judged_by, limits_of}
 use Rattle.task_answers.specs.Runs.{AnswersRun, IsMeasured, IsRunRefusal, start_of}
 use Rattle.task_answers.specs.CutTexts.{IsCutText}
 use Rattle.task_answers.specs.Tellings.{AnswersTelling, IsCertificateText, IsCutOfRun, IsReport, Tells as TellsOf}
@@ -50,6 +48,7 @@ use Rattle.commands.proofs.Readings.{AnswersCommand, AnswersFiles, AreOne, IsRea
 use Rattle.commands.proofs.Readings.{status_of, words_reading}
 use Rattle.reply_laws.specs.ReplyLaws.{AreLoaded, CompletesRun, CompletesVerdict, HasFewPaths, HaveFewPaths, IsNoGraph}
 use Rattle.reply_laws.proofs.CutTexts.{one_cut_text}
+use Rattle.reply_laws.proofs.DecidingTables.{Decides, DecidesBy, task_decides}
 use Rattle.reply_laws.proofs.OneBound.{bound_same}
 use Rattle.reply_laws.proofs.OneFinding.{taint_same}
 use Rattle.reply_laws.proofs.OneGuest.{RegionLaws}
@@ -57,82 +56,6 @@ use Rattle.reply_laws.proofs.OneLearning.{learning_same}
 use Rattle.reply_laws.proofs.OneTask.{task_reading}
 use Rattle.reply_laws.proofs.OneUnion.{many_same}
 use Rattle.transfer_rules.specs.Tables.{IsDeciding}
-use Rattle.transfer_rules.proofs.Deciding.{deciding_within}
-
--- ---- tables that decide
-
-decides : (value : Option (List ℕ)) (table : ℕ) → IsTable value table → IsDeciding table
-decides None table is = inl is
-decides (Some word) table is = deciding_within table is.above is.below
-
--- a table of mask rules by which secrets are judged decides
-abbrev pub DecidesBy : Judging → Type 0
-DecidesBy Replay = Unit {0}
-DecidesBy (Masks table) = IsDeciding table
-
--- the table of a command that asks mask rules decides
-abbrev DecidesCommand : Command → Type 0
-DecidesCommand (Checks check) = DecidesBy check.judging
-DecidesCommand (Bounds all) = Unit {0}
-DecidesCommand (Tells telling run) = IsDeciding run.table
-DecidesCommand (MeasuresAll version runs) = IsDeciding runs.table
-DecidesCommand (Assembles source) = Unit {0}
-DecidesCommand (Lists program) = Unit {0}
-DecidesCommand (Verifies certificate) = Unit {0}
-DecidesCommand (Migrates cut) = Unit {0}
-DecidesCommand (Tries number) = Unit {0}
-
-fit_decides : (name : CommandName) (parts : Parts) (command : Command) → Fits name parts command →
-    DecidesCommand command
-fit_decides names.Check parts command (check, is, e) =
-    subst DecidesCommand (sym e) (subst DecidesBy (sym is.judged) tt)
-fit_decides names.Taint parts command (table, check, is, choice, e) =
-    subst DecidesCommand (sym e) (subst DecidesBy (sym is.judged) (decides _ table choice))
-fit_decides names.Bound parts command (all, is, e) = subst DecidesCommand (sym e) tt
-fit_decides names.Measure parts command (version, run, is, choice, e) =
-    subst DecidesCommand (sym e) (decides _ run.table is.rules)
-fit_decides names.MeasureAll parts command (version, runs, is, choice, e) =
-    subst DecidesCommand (sym e) (decides _ runs.table is.rules)
-fit_decides names.Graph parts command (run, is, e) = subst DecidesCommand (sym e) (decides _ run.table is.rules)
-fit_decides names.Report parts command (run, is, e) = subst DecidesCommand (sym e) (decides _ run.table is.rules)
-fit_decides names.Learn parts command (run, is, e) = subst DecidesCommand (sym e) (inl is.rules)
-fit_decides names.Assemble parts command (file, is, e) = subst DecidesCommand (sym e) tt
-fit_decides names.List parts command (file, is, e) = subst DecidesCommand (sym e) tt
-fit_decides names.Verify parts command (file, is, e) = subst DecidesCommand (sym e) tt
-fit_decides names.Migrate parts command (file, is, e) = subst DecidesCommand (sym e) tt
-fit_decides names.Trial parts command (number, is, e) = subst DecidesCommand (sym e) tt
-
--- the table of a task that asks mask rules decides
-abbrev pub Decides : Task → Type 0
-Decides (JudgeSecrets task) = DecidesBy task.judging
-Decides (BoundAll all) = Unit {0}
-Decides (TellRun telling run) = IsDeciding run.table
-Decides (MeasureAll version runs) = IsDeciding runs.table
-Decides (WriteProgram picture) = Unit {0}
-Decides (ListProgram picture) = Unit {0}
-Decides (VerifyCertificate graph solved) = Unit {0}
-Decides (MigrateCut cut) = Unit {0}
-Decides (TryNumber number) = Unit {0}
-
-decides_task : (files : List (List ℕ)) (command : Command) (task : Task) → DecidesCommand command →
-    IsTaskOf command files task → Decides task
-decides_task files (Checks check) task known (x, is, e) =
-    subst Decides (sym e) (subst DecidesBy (sym is.judging) known)
-decides_task files (Bounds all) task known (x, is, e) = subst Decides (sym e) tt
-decides_task files (Tells telling run) task known (x, is, e) =
-    subst Decides (sym e) (subst IsDeciding (sym is.table) known)
-decides_task files (MeasuresAll version runs) task known (x, is, e) =
-    subst Decides (sym e) (subst IsDeciding (sym is.table) known)
-decides_task files (Assembles source) task known (file, x, are, is, e) = subst Decides (sym e) tt
-decides_task files (Lists program) task known (file, x, are, is, e) = subst Decides (sym e) tt
-decides_task files (Verifies certificate) task known (file, x, y, are, is, e) = subst Decides (sym e) tt
-decides_task files (Migrates cut) task known (file, x, are, is, e) = subst Decides (sym e) tt
-decides_task files (Tries number) task known e = subst Decides (sym e) tt
-
-pub task_decides : (words files : List (List ℕ)) (command : Command) (task : Task) → IsCommand words command →
-    IsTaskOf command files task → Decides task
-task_decides words files command task named is =
-    decides_task files command task (fit_decides named.name named.parts command named.row) is
 
 -- ---- a measured run
 
@@ -141,13 +64,13 @@ abbrev pub IsDone : (Measured → Answer → Type 0) → Type 0
 IsDone Answers = (measured : Measured) (answer : Answer) → Answers measured answer → status_of answer ≡ 0
 
 -- a run that is measured has no cause to be refused
-no_cause : (run : RunTask) (measured : Measured) (refusal : Refusal) → IsDeciding run.table → IsMeasured run measured →
+no_cause : (run : RunTask) (measured : Measured) (refusal : Refusal) → IsDeciding run.settings.table → IsMeasured run measured →
     IsRunRefusal run refusal → ⊥
 no_cause run measured refusal deciding is (fault, (cause, room), e) =
-    room (measured_have_no_cause run.table run.guest.regions (start_of run) (length run.secret) run.turns measured fault
+    room (measured_have_no_cause run.settings.table run.guest.regions (start_of run) (length run.secret) run.settings.turns measured fault
     deciding is.measures cause)
 
-run_one : (run : RunTask) (Answers : Measured → Answer → Type 0) → IsDone Answers → IsDeciding run.table →
+run_one : (run : RunTask) (Answers : Measured → Answer → Type 0) → IsDone Answers → IsDeciding run.settings.table →
     (first second : Answer) → AnswersRun run Answers first → AnswersRun run Answers second → AreOne first second
 run_one run Answers done deciding first second (inl (refusal, (fault, is, e), f)) (inl (other, (also, was, g), h)) =
     ap status_of (f ∙ ap (λ r. Err r) e) ∙ sym (ap status_of (h ∙ ap (λ r. Err r) g))
@@ -164,10 +87,10 @@ IsAlike Answers =
     (one other : Measured) (first second : Answer) → AreSameMeasures one other → Answers one first →
     Answers other second → first ≡ second
 
-run_same : (run : RunTask) (Answers : Measured → Answer → Type 0) → IsAlike Answers → IsDeciding run.table →
+run_same : (run : RunTask) (Answers : Measured → Answer → Type 0) → IsAlike Answers → IsDeciding run.settings.table →
     (first second : Answer) → AnswersRun run Answers first → AnswersRun run Answers second → first ≡ second
 run_same run Answers alike deciding first second (inl (refusal, (fault, (cause, room), e), f)) (inl (other, (also, (was, rooms), g), h)) =
-    let same = one_cause run.table run.guest.regions (start_of run) run.turns fault also deciding cause was room rooms in
+    let same = one_cause run.settings.table run.guest.regions (start_of run) run.settings.turns fault also deciding cause was room rooms in
     f ∙ (ap (λ r. Err r) (e ∙ (ap (λ x. RunRefused x) same ∙ sym g)) ∙ sym h)
 run_same run Answers alike deciding first second (inl (refusal, is, e)) (inr (measured, also, answers)) =
     absurd (no_cause run measured refusal deciding also is)
@@ -175,11 +98,11 @@ run_same run Answers alike deciding first second (inr (measured, is, answers)) (
     absurd (no_cause run measured refusal deciding is also)
 run_same run Answers alike deciding first second (inr (measured, is, answers)) (inr (other, also, more)) =
     alike measured other first second
-    (one_measure run.table run.guest.regions (start_of run) (length run.secret) run.turns measured other deciding
+    (one_measure run.settings.table run.guest.regions (start_of run) (length run.secret) run.settings.turns measured other deciding
     is.measures also.measures)
     answers more
 
-pub run_completes : (run : RunTask) (Answers : Measured → Answer → Type 0) → IsDone Answers → IsDeciding run.table →
+pub run_completes : (run : RunTask) (Answers : Measured → Answer → Type 0) → IsDone Answers → IsDeciding run.settings.table →
     (answer : Answer) → AnswersRun run Answers answer → CompletesRun run (status_of answer)
 run_completes run Answers done deciding answer (inl (refusal, (fault, (cause, room), e), f)) =
     let four : status_of answer ≡ 4 = ap status_of (f ∙ ap (λ r. Err r) e) in
@@ -193,7 +116,7 @@ run_completes run Answers done deciding answer (inr (measured, is, answers)) =
     record {
       known = inl zero;
       measured = λ z. λ fault. λ cause.
-          measured_have_no_cause run.table run.guest.regions (start_of run) (length run.secret) run.turns measured fault
+          measured_have_no_cause run.settings.table run.guest.regions (start_of run) (length run.secret) run.settings.turns measured fault
           deciding is.measures cause;
       done = λ none. zero;
     }
@@ -285,20 +208,20 @@ NoGraph (VerifyCertificate graph solved) = Unit {0}
 NoGraph (MigrateCut cut) = Unit {0}
 NoGraph (TryNumber number) = Unit {0}
 
-no_certificate : (words : List (List ℕ)) (telling : Telling) (run : Run) → IsNoGraph words →
-    IsCommand words (Tells telling run) → IsNoCertificate telling
-no_certificate words (CutText version) run none named = tt
-no_certificate words Certificate run none named = absurd (none run named)
-no_certificate words (Report json) run none named = tt
-no_certificate words Declaration run none named = tt
+no_certificate : (words : List (List ℕ)) (telling : Telling) (guest : GuestFiles) (secret : List ℕ) (settings : RunSettings) →
+    IsNoGraph words → IsCommand words (Tells telling guest secret settings) → IsNoCertificate telling
+no_certificate words (CutText version) guest secret settings none named = tt
+no_certificate words Certificate guest secret settings none named = absurd (none guest secret settings named)
+no_certificate words (Report json) guest secret settings none named = tt
+no_certificate words Declaration guest secret settings none named = tt
 
 no_graph : (words files : List (List ℕ)) (command : Command) (task : Task) → IsNoGraph words →
     IsCommand words command → IsTaskOf command files task → NoGraph task
-no_graph words files (Checks check) task none named (x, is, e) = subst NoGraph (sym e) tt
-no_graph words files (Bounds all) task none named (x, is, e) = subst NoGraph (sym e) tt
-no_graph words files (Tells telling run) task none named (x, is, e) =
-    subst NoGraph (sym e) (no_certificate words telling run none named)
-no_graph words files (MeasuresAll version runs) task none named (x, is, e) = subst NoGraph (sym e) tt
+no_graph words files (Checks guest cut secrets settings) task none named (x, is, same, e) = subst NoGraph (sym e) tt
+no_graph words files (Bounds guest cut settings) task none named (x, is, same, e) = subst NoGraph (sym e) tt
+no_graph words files (Tells telling guest secret settings) task none named (x, is, same, e) =
+    subst NoGraph (sym e) (no_certificate words telling guest secret settings none named)
+no_graph words files (MeasuresAll version guest secrets settings) task none named (x, is, same, e) = subst NoGraph (sym e) tt
 no_graph words files (Assembles source) task none named (file, x, are, is, e) = subst NoGraph (sym e) tt
 no_graph words files (Lists program) task none named (file, x, are, is, e) = subst NoGraph (sym e) tt
 no_graph words files (Verifies certificate) task none named (file, x, y, are, is, e) = subst NoGraph (sym e) tt
@@ -309,17 +232,17 @@ check_same : (judging : Judging) (task : CheckTask) (first second : Answer) → 
     AnswersBy judging task first → AnswersBy judging task second → first ≡ second
 check_same Replay task first second deciding one other = one ∙ sym other
 check_same (Masks table) task first second deciding one other =
-    taint_same table (judged_by task.guest task.cut) task.limits task.secrets first second deciding one other
+    taint_same table (judged_by task.guest task.cut) (limits_of task) task.secrets first second deciding one other
 
 telling_same : (telling : Telling) (run : RunTask) (first second : Answer) → IsNoCertificate telling →
-    IsDeciding run.table → AnswersTelling telling run first → AnswersTelling telling run second → first ≡ second
+    IsDeciding run.settings.table → AnswersTelling telling run first → AnswersTelling telling run second → first ≡ second
 telling_same (CutText version) run first second none deciding one other =
     run_same run (TellsOf (IsCutOfRun version)) (cut_told version) deciding first second one other
 telling_same Certificate run first second none deciding one other = absurd none
 telling_same (Report json) run first second none deciding one other =
     run_same run (TellsOf (IsReport json)) (report_told json) deciding first second one other
 telling_same Declaration run first second none deciding one other =
-    learning_same run.guest run.secret run.turns first second one other
+    learning_same run.guest run.secret run.settings.turns first second one other
 
 -- where a bound is asked for, there are no more paths than walks may be made
 abbrev IsFew : Task → Type 0
@@ -328,7 +251,7 @@ IsFew task = (all : AllSecretsTask) → task ≡ BoundAll all → HasFewPaths al
 task_same : (task : Task) (first second : Answer) → NoGraph task → Decides task → IsFew task →
     AnswersTask task first → AnswersTask task second → first ≡ second
 task_same (JudgeSecrets task) first second none deciding few one other =
-    check_same task.judging task first second deciding one other
+    check_same task.settings.judging task first second deciding one other
 task_same (BoundAll all) first second none deciding few one other =
     bound_same all first second (few all refl) one other
 task_same (TellRun telling run) first second none deciding few one other =
@@ -343,7 +266,7 @@ task_same (MigrateCut cut) first second none deciding few one other = one ∙ sy
 task_same (TryNumber number) first second none deciding few one other =
     run_same (run_of_number number) (TellsTrial number) (told_trial number) (inl refl) first second one other
 
-telling_one : (telling : Telling) (run : RunTask) (first second : Answer) → IsDeciding run.table →
+telling_one : (telling : Telling) (run : RunTask) (first second : Answer) → IsDeciding run.settings.table →
     AnswersTelling telling run first → AnswersTelling telling run second → AreOne first second
 telling_one Certificate run first second deciding one other =
     run_one run (TellsOf IsCertificateText) (telling_done IsCertificateText) deciding first second one other

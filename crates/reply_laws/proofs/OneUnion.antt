@@ -15,12 +15,12 @@ use Rattle.reply_laws.specs.ReplyLaws.{CompletesRuns}
 use Rattle.reply_laws.proofs.CutTexts.{one_cut_text}
 use Rattle.transfer_rules.specs.Tables.{IsDeciding}
 
-no_cause : (runs : ManyRunsTask) (many : Many) (refusal : Refusal) → IsDeciding runs.table → AreMeasured runs many →
+no_cause : (runs : ManyRunsTask) (many : Many) (refusal : Refusal) → IsDeciding runs.settings.table → AreMeasured runs many →
     IsRunsRefusal runs refusal → ⊥
 no_cause runs many refusal deciding are (fault, (cause, room), e) =
     room (measured_together (setup_in runs) runs.secrets many fault deciding are.measures cause)
 
-pub many_same : (version : ℕ) (runs : ManyRunsTask) (first second : Answer) → IsDeciding runs.table →
+pub many_same : (version : ℕ) (runs : ManyRunsTask) (first second : Answer) → IsDeciding runs.settings.table →
     AnswersMany version runs first → AnswersMany version runs second → first ≡ second
 many_same version runs first second deciding (inl (refusal, (fault, (cause, room), e), f)) (inl (other, (also, (was, rooms), g), h)) =
     let same = one_many_cause (setup_in runs) runs.secrets fault also deciding cause was room rooms in
@@ -35,7 +35,7 @@ many_same version runs first second deciding (inr (many, is, (text, told, e))) (
     let here : IsCutText version (cut_picture other.cut) text = subst (λ c. IsCutText version c text) cuts told in
     e ∙ (ap done_by (one_cut_text version (cut_picture other.cut) text words here more) ∙ sym f)
 
-pub many_completes : (version : ℕ) (runs : ManyRunsTask) (answer : Answer) → IsDeciding runs.table →
+pub many_completes : (version : ℕ) (runs : ManyRunsTask) (answer : Answer) → IsDeciding runs.settings.table →
     AnswersMany version runs answer → CompletesRuns runs (status_of answer)
 many_completes version runs answer deciding (inl (refusal, (fault, (cause, room), e), f)) =
     let four : status_of answer ≡ 4 = ap status_of (f ∙ ap (λ r. Err r) e) in

@@ -22,15 +22,16 @@ use Rattle.every_secret.specs.Bounds.{Found, IsBounded}
 use Rattle.every_secret.specs.Paths.{paths_of}
 use Rattle.command_line.specs.declared.judgings.Judging.{Judging}
 use Rattle.command_line.specs.declared.judgings.Judging.TheVariants.{Replay, Masks}
+use Rattle.command_line.specs.declared.settings.RunSettings.{RunSettings}
 use Rattle.command_line.specs.declared.tellings.Telling.{Telling}
-use Rattle.command_line.specs.declared.tellings.Telling.TheVariants.{CutText, Certificate, Report, Declaration}
-use Rattle.command_line.specs.CommandLines.{Run, Command, Tells, IsCommand}
+use Rattle.command_line.specs.declared.tellings.Telling.TheVariants.{Certificate, Declaration}
+use Rattle.command_line.specs.CommandLines.{GuestFiles, Command, Tells, IsCommand}
 use Rattle.command_tasks.specs.Tasks.{AllSecretsTask, ManyRunsTask, RunTask, Task, JudgeSecrets, TellRun, WriteProgram}
 use Rattle.command_tasks.specs.Tasks.{ListProgram, VerifyCertificate, BoundAll, MeasureAll, MigrateCut, TryNumber}
 use Rattle.command_tasks.specs.Tasks.{IsTaskOf, wants_of}
 use Rattle.command_tasks.specs.Loading.{loaded_from}
 use Rattle.task_answers.specs.AllSecrets.{bound_of, tree_in}
-use Rattle.task_answers.specs.Checks.{judged_by}
+use Rattle.task_answers.specs.Checks.{judged_by, limits_of}
 use Rattle.task_answers.specs.Declarations.{learnt_run}
 use Rattle.task_answers.specs.ManyRuns.{setup_in}
 use Rattle.task_answers.specs.Runs.{start_of}
@@ -41,7 +42,9 @@ use Rattle.commands.specs.Replies.{Reply, Replies}
 
 -- the words ask for no certificate of a run: a graph may have more than one maximum flow
 abbrev pub IsNoGraph : List (List ℕ) → Type 0
-IsNoGraph words = (run : Run) → ¬ IsCommand words (Tells Certificate run)
+IsNoGraph words =
+    (guest : GuestFiles) (secret : List ℕ) (settings : RunSettings)
+    → ¬ IsCommand words (Tells Certificate guest secret settings)
 
 -- The source tells its meanings, and these are the files that the command wants: no load of the call fails, and each
 -- name is held within its limit.
@@ -51,7 +54,7 @@ AreLoaded (Some told) command files = loaded_from told (wants_of command) ≡ Ok
 
 -- there are no more paths than walks may be made
 abbrev pub HasFewPaths : AllSecretsTask → Type 0
-HasFewPaths all = length (paths_of (tree_in all)) ≤ all.paths
+HasFewPaths all = length (paths_of (tree_in all)) ≤ all.settings.paths
 
 -- so it is where the words ask for a bound
 abbrev pub HaveFewPaths : Option Told → List (List ℕ) → Type 0
@@ -101,12 +104,12 @@ pub record CompletesBound (all : AllSecretsTask) (status : ℕ) : Type 0 where
   pub known : status ≤ 1
   pub bounded : status ≡ 0 → HasBound all
   pub done : HasBound all → HasFewPaths all → status ≡ 0
-  pub more : HasBound all → status ≡ 1 → all.paths < length (paths_of (tree_in all))
+  pub more : HasBound all → status ≡ 1 → all.settings.paths < length (paths_of (tree_in all))
 
 -- nothing refuses the run but out of memory, of which nothing is said
 abbrev pub HasNoCause : RunTask → Type 0
 HasNoCause run =
-    (fault : MeasureFault) → HasCause run.table run.guest.regions (start_of run) run.turns fault
+    (fault : MeasureFault) → HasCause run.settings.table run.guest.regions (start_of run) run.settings.turns fault
     → fault ≡ NoRoomForRun
 
 -- 0 exactly where nothing refuses the run, and else 4
@@ -127,7 +130,7 @@ pub record CompletesRuns (runs : ManyRunsTask) (status : ℕ) : Type 0 where
 
 -- nothing refuses a declaration
 abbrev pub HasDeclaration : RunTask → Type 0
-HasDeclaration run = (fault : LearnFault) → ¬ RefusesToLearn (learnt_run run.guest run.secret run.turns) fault
+HasDeclaration run = (fault : LearnFault) → ¬ RefusesToLearn (learnt_run run.guest run.secret run.settings.turns) fault
 
 -- 0 exactly where nothing refuses a declaration, and else 4
 pub record CompletesLearning (run : RunTask) (status : ℕ) : Type 0 where
@@ -136,10 +139,8 @@ pub record CompletesLearning (run : RunTask) (status : ℕ) : Type 0 where
   pub done : HasDeclaration run → status ≡ 0
 
 abbrev pub CompletesTelling : Telling → RunTask → ℕ → Type 0
-CompletesTelling (CutText version) run status = CompletesRun run status
-CompletesTelling Certificate run status = CompletesRun run status
-CompletesTelling (Report json) run status = CompletesRun run status
 CompletesTelling Declaration run status = CompletesLearning run status
+CompletesTelling telling run status = CompletesRun run status
 
 -- 0 exactly where the flow is feasible, the side is a side, and value, flow and side have one number; and else 1
 pub record CompletesVerdict (graph : Graph) (solved : Solved) (status : ℕ) : Type 0 where
@@ -150,7 +151,7 @@ pub record CompletesVerdict (graph : Graph) (solved : Solved) (status : ℕ) : T
 -- a source that is assembled, a program that is listed and a cut that is migrated are done
 abbrev pub Completes : Task → ℕ → Type 0
 Completes (JudgeSecrets task) status =
-    CompletesBy task.judging (judged_by task.guest task.cut) task.limits task.secrets status
+    CompletesBy task.settings.judging (judged_by task.guest task.cut) (limits_of task) task.secrets status
 Completes (BoundAll all) status = CompletesBound all status
 Completes (TellRun telling run) status = CompletesTelling telling run status
 Completes (MeasureAll version runs) status = CompletesRuns runs status

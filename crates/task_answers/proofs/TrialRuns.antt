@@ -16,7 +16,7 @@ made_guest program public_input regions = record {
 }
 
 abbrev pub made_run : Guest → List ℕ → RunTask
-made_run guest secret = record { guest = guest; secret = secret; turns = trial_turns; table = 1 }
+made_run guest secret = record { guest = guest; secret = secret; settings = record { turns = trial_turns; table = 1 } }
 
 pub guest_of_trial : (number : ℕ) (program : Picture) (public_input : List ℕ) (regions : List Region) →
     program ≡ picture_of_number number → public_input ≡ [] → regions ≡ [] →

@@ -13,6 +13,10 @@ use Rattle.task_answers.specs.Answers.{Answer}
 use Rattle.task_answers.specs.Findings.{AnswersTaint}
 use Rattle.task_answers.specs.Texts.{check_text, accepted_count}
 
+-- the limits of bits and of turns
+abbrev pub limits_of : CheckTask → Limits
+limits_of task = record { budget = task.settings.budget; turns = task.settings.turns }
+
 -- what secrets of a guest are judged by
 abbrev pub judged_by : Guest → CutPicture → JudgedTask
 judged_by guest cut = task_of guest.program guest.public_input guest.regions cut
@@ -34,9 +38,9 @@ abbrev pub AnswersReplay : JudgedTask → Limits → List (List ℕ) → Answer 
 AnswersReplay task limits secrets answer = answer ≡ Ok (check_reply (judgements_of task limits secrets) limits.budget)
 
 abbrev pub AnswersBy : Judging → CheckTask → Answer → Type 0
-AnswersBy Replay task answer = AnswersReplay (judged_by task.guest task.cut) task.limits task.secrets answer
+AnswersBy Replay task answer = AnswersReplay (judged_by task.guest task.cut) (limits_of task) task.secrets answer
 AnswersBy (Masks table) task answer =
-    AnswersTaint table (judged_by task.guest task.cut) task.limits task.secrets answer
+    AnswersTaint table (judged_by task.guest task.cut) (limits_of task) task.secrets answer
 
 abbrev pub AnswersCheck : CheckTask → Answer → Type 0
-AnswersCheck task answer = AnswersBy task.judging task answer
+AnswersCheck task answer = AnswersBy task.settings.judging task answer

@@ -12,3 +12,4 @@ pub mod AllSecrets
 pub mod Trials
 pub mod Verifications
 pub mod TaskAnswers
+pub mod Private

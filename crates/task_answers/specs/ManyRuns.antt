@@ -15,16 +15,16 @@ use Rattle.task_answers.specs.Answers.{Answer, Reads, done_by}
 use Rattle.task_answers.specs.CutTexts.{IsCutText}
 
 abbrev pub setup_in : ManyRunsTask → Setup
-setup_in runs = setup_of runs.table runs.guest.program runs.guest.public_input runs.guest.regions runs.turns
+setup_in runs = setup_of runs.settings.table runs.guest.program runs.guest.public_input runs.guest.regions runs.settings.turns
 
 -- What is measured of the runs: each secret is accepted with the one cut, and with its fold, within the one number of bits
 -- and the same turns; the texts of both are short enough for a cut file.
 pub record AreMeasured (runs : ManyRunsTask) (many : Many) : Type 0 where
   pub measures : MeasuresTogether (setup_in runs) runs.secrets many
   pub accepted :
-      AreAcceptedByTheCut runs.guest.program runs.guest.public_input runs.guest.regions runs.secrets runs.turns many
+      AreAcceptedByTheCut runs.guest.program runs.guest.public_input runs.guest.regions runs.secrets runs.settings.turns many
   pub folds :
-      AreAcceptedByFolds runs.guest.program runs.guest.public_input runs.guest.regions runs.secrets runs.turns many
+      AreAcceptedByFolds runs.guest.program runs.guest.public_input runs.guest.regions runs.secrets runs.settings.turns many
   pub short : HasShortText (cut_picture many.cut)
 
 -- why they are refused

@@ -21,18 +21,18 @@ start_of run = unlabelled (machine_of run.guest.program run.guest.public_input r
 -- the same turns; the number is at most eight for each byte of the secret; the texts of both are short enough for a cut
 -- file.
 pub record IsMeasured (run : RunTask) (measured : Measured) : Type 0 where
-  pub measures : Measures run.table run.guest.regions (start_of run) (length run.secret) run.turns measured
+  pub measures : Measures run.settings.table run.guest.regions (start_of run) (length run.secret) run.settings.turns measured
   pub accepted :
-      IsAcceptedByItsCut run.guest.program run.guest.public_input run.guest.regions run.secret run.turns measured
+      IsAcceptedByItsCut run.guest.program run.guest.public_input run.guest.regions run.secret run.settings.turns measured
   pub folds :
-      IsAcceptedByFolds run.guest.program run.guest.public_input run.guest.regions run.secret run.turns measured
+      IsAcceptedByFolds run.guest.program run.guest.public_input run.guest.regions run.secret run.settings.turns measured
   pub few : measured.value ≤ 8 * length run.secret
   pub short : HasShortText (cut_picture measured.cut)
 
 -- why it is refused
 abbrev pub IsRunRefusal : RunTask → Refusal → Type 0
 IsRunRefusal run refusal =
-    IsRefusedBy (λ fault. HasCause run.table run.guest.regions (start_of run) run.turns fault × (fault ≢ NoRoomForRun))
+    IsRefusedBy (λ fault. HasCause run.settings.table run.guest.regions (start_of run) run.settings.turns fault × (fault ≢ NoRoomForRun))
     RunRefused refusal
 
 -- why the run is refused, or what is measured of it, and what comes of that

@@ -44,4 +44,4 @@ abbrev pub AnswersTelling : Telling → RunTask → Answer → Type 0
 AnswersTelling (CutText version) run answer = AnswersRun run (Tells (IsCutOfRun version)) answer
 AnswersTelling Certificate run answer = AnswersRun run (Tells IsCertificateText) answer
 AnswersTelling (Report json) run answer = AnswersRun run (Tells (IsReport json)) answer
-AnswersTelling Declaration run answer = AnswersLearning run.guest run.secret run.turns answer
+AnswersTelling Declaration run answer = AnswersLearning run.guest run.secret run.settings.turns answer

@@ -24,8 +24,7 @@ abbrev pub run_of_number : ℕ → RunTask
 run_of_number number = record {
   guest = guest_of_number number;
   secret = secret_of number;
-  turns = trial_turns;
-  table = 1;
+  settings = record { turns = trial_turns; table = 1 };
 }
 
 -- how many bits cross the cut of the measured run

@@ -4,7 +4,7 @@ ghost use Rattle.std.specs.Prelude.{◌≡◌, ◌∷◌, ◌<◌, [], Ok as Fin
 ghost use Rattle.every_secret.specs.AnyPublic.{TellsOf, seen_task};
 ghost use Rattle.every_secret.specs.Bounds.{Found, HasMorePaths, IsBounded, IsUnclear, IsVerdict, summary_in, summary_of};
 ghost use Rattle.command_tasks.specs.ReadTasks.{IsBoundedAll, all_secrets_in};
-ghost use Rattle.task_answers.specs.AllSecrets.{AnswersAllSecrets, AnswersBound, AnswersTooMany, bound_of, rules_by};
+ghost use Rattle.task_answers.specs.AllSecrets.{AnswersAllSecrets, AnswersBound, AnswersTooMany, bound_limits, bound_of, rules_by};
 ghost use Rattle.task_answers.specs.AllSecrets.{public_of, tree_in};
 ghost use Rattle.task_answers.specs.Checks.{judged_by};
 
@@ -24,7 +24,7 @@ use transfer_rules::RuleBook;
 fn known_of(all: &AllSecretsTask) -> PublicInput
     ensures { result ≡ public_of (all_secrets_in all.now) }
 {
-    if all.any_public {
+    if all.settings.any_public {
         PublicInput::Any
     } else {
         PublicInput::Given
@@ -39,11 +39,11 @@ fn verdict_on(
 ) -> Result<BoundVerdict, NoMemory>
     requires books { map (λ book. book.table) books.now ≡ 1 ∷ 2 ∷ 3 ∷ [] }
     requires bounded { IsBoundedAll all.now }
-    ensures answer { IfOk result (λ verdict. IsVerdict (rules_by all.now.table (public_of (all_secrets_in all.now)))
+    ensures answer { IfOk result (λ verdict. IsVerdict (rules_by all.now.settings.table (public_of (all_secrets_in all.now)))
         (seen_task (public_of (all_secrets_in all.now)) (judged_by (all_secrets_in all.now).guest (all_secrets_in all.now).cut))
-        (all_secrets_in all.now).limits all.now.paths verdict) }
+        (bound_limits (all_secrets_in all.now)) all.now.settings.paths verdict) }
     ensures all { TellsOf (public_of (all_secrets_in all.now)) (judged_by (all_secrets_in all.now).guest (all_secrets_in all.now).cut)
-        (all_secrets_in all.now).limits (bound_of (all_secrets_in all.now)) }
+        (bound_limits (all_secrets_in all.now)) (bound_of (all_secrets_in all.now)) }
 {
     tables_have_rules();
     tables_are_sound();
@@ -54,10 +54,10 @@ fn verdict_on(
         known_of(all),
         &all.guest.regions,
         &all.cut,
-        book_of(books, all.table),
-        all.limits.budget,
-        all.limits.turns,
-        all.paths,
+        book_of(books, all.settings.table),
+        all.settings.budget,
+        all.settings.turns,
+        all.settings.paths,
     )
 }
 
@@ -65,12 +65,12 @@ fn verdict_on(
 fn bounded_reply(alloc: Global, all: &AllSecretsTask, found: &Bounded) -> Result<Reply, NoMemory>
     ensures { IfOk result (λ reply. (all_found : Found) → summary_in found.now ≡ summary_of all_found →
         TellsOf (public_of (all_secrets_in all.now)) (judged_by (all_secrets_in all.now).guest (all_secrets_in all.now).cut)
-        (all_secrets_in all.now).limits (IsBounded all_found) →
+        (bound_limits (all_secrets_in all.now)) (IsBounded all_found) →
         AnswersBound (all_secrets_in all.now) (IsBounded all_found) (Fine reply)) }
 {
-    let lines = listing(alloc, all.listed, found)?;
+    let lines = listing(alloc, all.settings.listed, found)?;
     let regions = all.guest.regions.items.len();
-    let public = public_text(alloc, all.any_public, all.guest.public_input.len())?;
+    let public = public_text(alloc, all.settings.any_public, all.guest.public_input.len())?;
     let last = bounded_line(alloc, all.cut.secret_len, public.as_slice(), regions, found)?;
     let mut text = lines;
     text.extend_from_slice(last.as_slice())?;
@@ -99,10 +99,10 @@ fn unclear_reply(
 
 /// The reply where as many walks were made as may be, the last along this string.
 fn too_many_reply(alloc: Global, all: &AllSecretsTask, path: &Bits) -> Result<Reply, NoMemory>
-    requires { HasMorePaths (tree_in (all_secrets_in all.now)) all.now.paths path.now.bits }
+    requires { HasMorePaths (tree_in (all_secrets_in all.now)) all.now.settings.paths path.now.bits }
     ensures { IfOk result (λ reply. AnswersTooMany (all_secrets_in all.now) (Fine reply)) }
 {
-    let text = too_many_line(alloc, path, all.paths)?;
+    let text = too_many_line(alloc, path, all.settings.paths)?;
     Ok(Reply {
         status: Status::Rejected,
         text,

@@ -3,14 +3,15 @@
 ghost use Rattle.std.specs.Prelude.{◌≡◌, ◌≤◌, ◌∷◌, [], List as Seq, Ok as Fine, length, IfOk};
 ghost use Rattle.cut_file.specs.Pictures.{cut_picture};
 ghost use Rattle.taint_check.specs.Tainted.{Finding, IsUnclear, finding_of};
-ghost use Rattle.command_tasks.specs.ReadTasks.{AreShort, guest_in, limits_in};
+ghost use Rattle.command_tasks.specs.ReadTasks.{AreShort, guest_in};
+ghost use Rattle.task_answers.specs.Private.JudgedLimits.{limits_in};
 ghost use Rattle.task_answers.specs.Checks.{judged_by};
 ghost use Rattle.task_answers.specs.Findings.{AnswersTaint, AreFindings, IsFinding};
 ghost use Rattle.task_answers.specs.Texts.{clean_count, finding_line as finding_line_of, finding_lines};
 
+use crate::limits::Limits;
 use crate::replies::Reply;
 use crate::texts::{counts_line, status_of};
-use command_line::Limits;
 use command_tasks::Guest;
 use cut_file::Cut;
 use flow_base::{Bytes, NoMemory};

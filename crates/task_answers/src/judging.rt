@@ -4,15 +4,17 @@ ghost use Rattle.std.specs.Prelude.{◌≡◌, ◌≢◌, ◌≤◌, Ok as Fine,
 ghost use Rattle.cut_file.specs.Pictures.{cut_picture};
 ghost use Rattle.lockstep_replay.specs.Judgements.{judgement_of};
 ghost use Rattle.lockstep_replay.specs.Verdicts.{First};
-ghost use Rattle.command_tasks.specs.ReadTasks.{AreShort, IsBoundedCheck, check_in, guest_in, limits_in};
+ghost use Rattle.command_tasks.specs.ReadTasks.{AreShort, IsBoundedCheck, check_in, guest_in};
+ghost use Rattle.task_answers.specs.Private.JudgedLimits.{limits_in};
 ghost use Rattle.task_answers.specs.Checks.{AnswersCheck, check_reply, judged_by, judgements_of};
 ghost use Rattle.task_answers.specs.Texts.{accepted_count, verdict_lines};
 
 use crate::books::book_of;
 use crate::finding::find_secrets;
+use crate::limits::Limits;
 use crate::replies::Reply;
 use crate::texts::{counts_line, status_of};
-use command_line::{Judging, Limits};
+use command_line::Judging;
 use command_tasks::{CheckTask, Guest};
 use cut_file::Cut;
 use flow_base::{Bytes, NoMemory};
@@ -142,11 +144,15 @@ pub fn judge_secrets(alloc: Global, task: &CheckTask, books: &[RuleBook]) -> Res
     ensures { IfOk result (λ reply. AnswersCheck (check_in task.now) (Fine reply)) }
 {
     let secrets = task.secrets;
-    match task.judging {
-        Judging::Replay => replay_secrets(alloc, &task.guest, &task.cut, secrets, task.limits),
+    let limits = Limits {
+        budget: task.settings.budget,
+        turns: task.settings.turns,
+    };
+    match task.settings.judging {
+        Judging::Replay => replay_secrets(alloc, &task.guest, &task.cut, secrets, limits),
         Judging::Masks(table) => {
             let book = book_of(books, table);
-            find_secrets(alloc, &task.guest, &task.cut, secrets, task.limits, book)
+            find_secrets(alloc, &task.guest, &task.cut, secrets, limits, book)
         }
     }
 }

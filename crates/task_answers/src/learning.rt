@@ -33,9 +33,9 @@ fn declaration(alloc: Global, guest: &Guest, secret: &Bytes, turns: u32) -> Resu
 /// Learns the declaration of a run, and tells it as the text of a region file.
 pub fn tell_declaration(alloc: Global, run: &RunTask) -> Result<Reply, Refusal>
     requires bounded { IsBoundedRun run.now }
-    ensures { result ≢ Err Memory → AnswersLearning (guest_in run.now.guest) run.now.secret.now run.now.turns result }
+    ensures { result ≢ Err Memory → AnswersLearning (guest_in run.now.guest) run.now.secret.now run.now.settings.turns result }
 {
-    let regions = declaration(alloc, &run.guest, run.secret, run.turns)?;
+    let regions = declaration(alloc, &run.guest, run.secret, run.settings.turns)?;
     let text = write_regions(alloc, &regions)?;
     Ok(Reply::done(text))
 }

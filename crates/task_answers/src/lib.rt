@@ -9,6 +9,7 @@ mod bounding;
 mod finding;
 mod judging;
 mod learning;
+mod limits;
 mod many;
 mod measured_runs;
 mod replies;

@@ -30,8 +30,8 @@ fn measured_together(
         runs.guest.public_input,
         runs.secrets,
         &runs.guest.regions,
-        book_of(books, runs.table),
-        runs.turns,
+        book_of(books, runs.settings.table),
+        runs.settings.turns,
     )?;
     Ok(many)
 }

@@ -22,8 +22,8 @@ pub fn measured(alloc: Global, run: &RunTask, books: &[RuleBook]) -> Result<Meas
         run.guest.public_input,
         run.secret,
         &run.guest.regions,
-        book_of(books, run.table),
-        run.turns,
+        book_of(books, run.settings.table),
+        run.settings.turns,
     )?;
     Ok(measured)
 }

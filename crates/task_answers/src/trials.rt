@@ -12,10 +12,11 @@ ghost use Rattle.task_answers.specs.Trials.{TellsTrial, crossing_count, guest_of
 ghost use Rattle.task_answers.specs.Trials.{trial_head, trial_line, trial_tail};
 
 use crate::judging::judge;
+use crate::limits::Limits;
 use crate::measured_runs::measured;
 use crate::replies::Reply;
 use crate::texts::joined;
-use command_line::Limits;
+use command_line::RunSettings;
 use command_tasks::{Guest, Refusal, RunTask};
 use enclosure_regions::Regions;
 use flow_base::{Bytes, List, NoMemory};
@@ -154,8 +155,10 @@ pub fn try_number(alloc: Global, number: u32, books: &[RuleBook]) -> Result<Repl
             regions: Regions::none(alloc),
         },
         secret: &secret,
-        turns: TURNS,
-        table: 1,
+        settings: RunSettings {
+            turns: TURNS,
+            table: 1,
+        },
     };
     try_run(alloc, number, &run, books)
 }

@@ -1,7 +1,7 @@
 -- The files of a guest, by their bytes.
 use Rattle.std.specs.Prelude.{option_map}
 use Rattle.command_tasks.specs.declared.guests.GuestFiles.{GuestFiles as LoadedGuest}
-use Rattle.command_tasks.specs.Guests.{GuestFiles}
+use Rattle.command_line.specs.CommandLines.{GuestFiles}
 
 abbrev pub files_in : LoadedGuest → GuestFiles
 files_in files = record {

@@ -1,6 +1,6 @@
 use Rattle.std.proofs.Common.{◌≡◌, Err, inl, inr, arith}
 use Rattle.std.proofs.lemmas.Grind.{common_steps}
-use Rattle.command_line.specs.Words.{check_of}
+use Rattle.command_line.specs.Words.{guest_of}
 use Rattle.command_tasks.specs.Private.LoadedFiles.{files_in}
 use Rattle.command_tasks.specs.ReadTasks.{guest_in}
 use Rattle.command_tasks.specs.Tasks.{IsCutFilesRefusal}
@@ -12,7 +12,7 @@ returns-in_err-guest-clause-err c =
     let refusal = c.in_err-guest.field-0.0 in
     let same : c.from_residual.result ≡ Err refusal = grind (arith, common_steps) in
     let files = c.files_of_check.result in
-    handed_on (IsCutFilesRefusal (check_of c.args.check.now).guest c.args.files.now) refusal c.from_residual.result same
+    handed_on (IsCutFilesRefusal (guest_of c.args.check.now.guest) c.args.files.now) refusal c.from_residual.result same
     (λ known. record {
       guest_files = files_in files.0;
       cut_file = files.1.now;
@@ -26,7 +26,7 @@ returns-in_err-cut-clause-err c =
     let refusal = c.in_err-cut.field-0.0 in
     let same : c.from_residual-in_err-cut.result ≡ Err refusal = grind (arith, common_steps) in
     let files = c.files_of_check.result in
-    handed_on (IsCutFilesRefusal (check_of c.args.check.now).guest c.args.files.now) refusal c.from_residual-in_err-cut.result same
+    handed_on (IsCutFilesRefusal (guest_of c.args.check.now.guest) c.args.files.now) refusal c.from_residual-in_err-cut.result same
     (λ known. record {
       guest_files = files_in files.0;
       cut_file = files.1.now;

@@ -1,4 +1,4 @@
-use Rattle.std.proofs.Common.{◌≡◌, Ok, Err, None, inl, inr, refl, arith}
+use Rattle.std.proofs.Common.{◌≡◌, Err, inl, inr, refl, sym, arith}
 use Rattle.std.proofs.lemmas.Grind.{common_steps}
 use Rattle.command_line.specs.Words.{command_of}
 use Rattle.command_tasks.specs.ReadTasks.{task_in}
@@ -8,13 +8,11 @@ use Rattle.commands.proofs.answering.answer.Goals as goal
 
 pub returns-in_default-clause-answers : goal.returns-in_default-clause-answers
 returns-in_default-clause-answers g c = λ known.
-    let none : c.command_line.result ≡ Ok None = grind (arith, common_steps) in
-    inl (_, inl (c.command_line.ensures.none none, refl), refl)
+    inl (_, inl (sym (rw c.in_default.is at c.in_ok-command.ensures), refl), refl)
 
 pub returns-in_default-clause-leaves : goal.returns-in_default-clause-leaves
 returns-in_default-clause-leaves g c = λ known.
-    let none : c.command_line.result ≡ Ok None = grind (arith, common_steps) in
-    inl (c.command_line.ensures.none none, refl)
+    inl (sym (rw c.in_default.is at c.in_ok-command.ensures), refl)
 
 pub returns-in_err-loaded-clause-answers : goal.returns-in_err-loaded-clause-answers
 returns-in_err-loaded-clause-answers g c = λ known.
@@ -25,7 +23,7 @@ returns-in_err-loaded-clause-answers g c = λ known.
       refusal,
       inr (
         command_of c.in-Some.command,
-        rw c.in-Some.is at c.in_ok-command.ensures.is,
+        sym (rw c.in-Some.is at c.in_ok-command.ensures),
         inl (rw (c.as_slice.ensures, c.in_ok-wants.ensures) at c.in_err-loaded.ensures.loads (err_apart refusal (Err refusal) refl apart)),
       ),
       same,
@@ -38,7 +36,7 @@ returns-in_err-loaded-clause-leaves g c = λ known.
     let apart = known_refusal refusal c.from_residual-in_err-loaded.result same known in
     inr (
       command_of c.in-Some.command,
-      rw c.in-Some.is at c.in_ok-command.ensures.is,
+      sym (rw c.in-Some.is at c.in_ok-command.ensures),
       rw (c.as_slice.ensures, c.in_ok-wants.ensures) at c.in_err-loaded.ensures.leaves (err_apart refusal (Err refusal) refl apart),
     )
 
@@ -51,7 +49,7 @@ returns-in_err-task-clause-answers g c = λ known.
       refusal,
       inr (
         command_of c.in-Some.command,
-        rw c.in-Some.is at c.in_ok-command.ensures.is,
+        sym (rw c.in-Some.is at c.in_ok-command.ensures),
         inr (
           c.in_ok-loaded.loaded,
           rw (c.as_slice.ensures, c.in_ok-wants.ensures) at c.in_ok-loaded.ensures.loads (λ e. cc),
@@ -65,7 +63,7 @@ pub returns-clause-answers : goal.returns-clause-answers
 returns-clause-answers g c = λ known.
     inr (record {
       command = command_of c.in-Some.command;
-      named = rw c.in-Some.is at c.in_ok-command.ensures.is;
+      named = sym (rw c.in-Some.is at c.in_ok-command.ensures);
       files = c.in_ok-loaded.loaded;
       loads = rw (c.as_slice.ensures, c.in_ok-wants.ensures) at c.in_ok-loaded.ensures.loads (λ e. cc);
       task = task_in c.in_ok-task.task;

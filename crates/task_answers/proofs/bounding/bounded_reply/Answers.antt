@@ -12,8 +12,8 @@ returns c = λ all_found shows tells.
     let all = all_secrets_in c.args.all.now in
     let (bits, least, line) = c.in_ok-last.ensures in
     let text : c.from_vec.result ≡ c.in_ok-lines.lines.items ++ c.in_ok-last.last = grind (arith, common_steps) in
-    let public : c.as_slice.result.now ≡ public_text all.any_public (length all.guest.public_input) =
-    c.as_slice.ensures ∙ (c.in_ok-public.ensures ∙ ap (λ count. public_text all.any_public count) c.len.ensures) in
+    let public : c.as_slice.result.now ≡ public_text all.settings.any_public (length all.guest.public_input) =
+    c.as_slice.ensures ∙ (c.in_ok-public.ensures ∙ ap (λ count. public_text all.settings.any_public count) c.len.ensures) in
     let told : c.from_vec.result ≡ bounded_text all (summary_in c.args.found.now) bits =
     text ∙ ap₂ (λ a b. a ++ b) c.in_ok-lines.ensures (rw (c.len-regions.ensures, public) at line) in
     let same : c.from_vec.result ≡ bounded_text all (summary_of all_found) bits =

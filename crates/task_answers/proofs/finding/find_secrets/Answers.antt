@@ -1,7 +1,8 @@
 use Rattle.std.proofs.Common.{◌≡◌, ◌++◌, Ok, sym, ap, arith}
 use Rattle.std.proofs.lemmas.Grind.{common_steps}
 use Rattle.cut_file.specs.Pictures.{cut_picture}
-use Rattle.command_tasks.specs.ReadTasks.{guest_in, limits_in}
+use Rattle.command_tasks.specs.ReadTasks.{guest_in}
+use Rattle.task_answers.specs.Private.JudgedLimits.{limits_in}
 use Rattle.task_answers.specs.Checks.{judged_by}
 use Rattle.task_answers.proofs.FindingLines.{length_findings, made_reply}
 use Rattle.task_answers.proofs.finding.find_secrets.Goals as goal

@@ -4,7 +4,8 @@ use Rattle.std.proofs.lemmas.Grind.{common_steps}
 use Rattle.std.proofs.lemmas.List.{drop_more}
 use Rattle.cut_file.specs.Pictures.{cut_picture}
 use Rattle.taint_check.specs.Tainted.{Finding, finding_of}
-use Rattle.command_tasks.specs.ReadTasks.{guest_in, limits_in}
+use Rattle.command_tasks.specs.ReadTasks.{guest_in}
+use Rattle.task_answers.specs.Private.JudgedLimits.{limits_in}
 use Rattle.task_answers.specs.Checks.{judged_by}
 use Rattle.task_answers.specs.Findings.{AreFindings}
 use Rattle.task_answers.proofs.FindingLines.{all_findings, next_finding}

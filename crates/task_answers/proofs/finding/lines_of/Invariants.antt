@@ -1,7 +1,8 @@
 use Rattle.std.proofs.Common.{◌≡◌, ◌≤◌, ◌+◌, ◌++◌, List, drop}
 use Rattle.cut_file.specs.Pictures.{cut_picture}
 use Rattle.taint_check.specs.Tainted.{Finding}
-use Rattle.command_tasks.specs.ReadTasks.{guest_in, limits_in}
+use Rattle.command_tasks.specs.ReadTasks.{guest_in}
+use Rattle.task_answers.specs.Private.JudgedLimits.{limits_in}
 use Rattle.task_answers.specs.Checks.{judged_by}
 use Rattle.task_answers.specs.Findings.{AreFindings}
 use Rattle.task_answers.specs.Texts.{clean_count, finding_lines}

@@ -1,5 +1,6 @@
 use Rattle.cut_file.specs.Pictures.{cut_picture}
-use Rattle.command_tasks.specs.ReadTasks.{guest_in, limits_in}
+use Rattle.command_tasks.specs.ReadTasks.{guest_in}
+use Rattle.task_answers.specs.Private.JudgedLimits.{limits_in}
 use Rattle.task_answers.specs.Checks.{judged_by}
 use Rattle.task_answers.proofs.judging.judge_in.Goals as goal
 

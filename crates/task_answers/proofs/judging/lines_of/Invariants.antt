@@ -1,6 +1,7 @@
 use Rattle.std.proofs.Common.{◌≡◌, ◌≤◌, ◌+◌, ◌++◌, drop}
 use Rattle.cut_file.specs.Pictures.{cut_picture}
-use Rattle.command_tasks.specs.ReadTasks.{guest_in, limits_in}
+use Rattle.command_tasks.specs.ReadTasks.{guest_in}
+use Rattle.task_answers.specs.Private.JudgedLimits.{limits_in}
 use Rattle.task_answers.specs.Checks.{judged_by, judgements_of}
 use Rattle.task_answers.specs.Texts.{accepted_count, verdict_lines}
 use Rattle.task_answers.proofs.judging.lines_of.Given as goal

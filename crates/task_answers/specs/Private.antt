@@ -1,0 +1,2 @@
+-- Definitions that only functions of this crate have in their contracts; no public contract stands on them.
+pub mod JudgedLimits
