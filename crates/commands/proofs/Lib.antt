@@ -5,3 +5,4 @@ pub mod FineAnswers
 pub mod ShortSecrets
 pub mod Headlines
 pub mod WholeReplies
+pub mod Wanted

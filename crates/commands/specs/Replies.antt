@@ -1,10 +1,10 @@
 -- The reply to a command line: words first, then loads, forms, and what is asked for.
-use Rattle.std.specs.Prelude.{◌≡◌, ◌⊎◌, ℕ, List, Option, Ok, Err}
+use Rattle.std.specs.Prelude.{◌≡◌, ◌⊎◌, ℕ, List, [], Option, None, Some, Ok, Err}
 use Rattle.flow_base.specs.Loads.{Told}
 use Rattle.command_line.specs.CommandLines.{Command, IsCommand, IsNoCommand}
 use Rattle.command_tasks.specs.declared.refusals.Refusal.{Refusal}
 use Rattle.command_tasks.specs.declared.refusals.Refusal.TheVariants.{Usage}
-use Rattle.command_tasks.specs.Loading.{Leaves, LeavesPart, Loads}
+use Rattle.command_tasks.specs.Loading.{Loads, Want}
 use Rattle.command_tasks.specs.Statuses.{status_number}
 use Rattle.command_tasks.specs.Tasks.{IsFormRefusal, IsTaskOf, Task, wants_of}
 use Rattle.task_answers.specs.Answers.{Answer, told}
@@ -52,13 +52,7 @@ pub record Replies (source : Option Told) (words : List (List ℕ)) (reply : Rep
   pub answers : AnswersWords source words answer
   pub tells : reply ≡ reply_of answer
 
--- What a source has after a command line: its loads are made up to the first that is refused, and for other words none.
-abbrev pub LeavesWords : Option Told → List (List ℕ) → Option Told → Type 0
-LeavesWords source words later =
-    (IsNoCommand words × (later ≡ source))
-    ⊎ ((command : Command) × IsCommand words command × Leaves source (wants_of command) later)
-
--- the same of a first part of these loads, where memory is short
-abbrev pub LeavesWordsPart : Option Told → List (List ℕ) → Option Told → Type 0
-LeavesWordsPart source words later =
-    (later ≡ source) ⊎ ((command : Command) × IsCommand words command × LeavesPart source (wants_of command) later)
+-- the files that a command wants, in the order of their loads; where there is none, no files
+abbrev pub wants_in : Option Command → List Want
+wants_in None = []
+wants_in (Some command) = wants_of command

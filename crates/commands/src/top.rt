@@ -1,6 +1,8 @@
 ghost use Rattle.std.specs.Prelude.{◌≡◌, ◌≢◌, ◌≤◌, ◌∷◌, [], map, string_bytes, IsTrue};
 ghost use Rattle.commands.specs.Clauses.{CountsFaults, IsPut, IsReply};
-ghost use Rattle.commands.specs.Replies.{LeavesWords, LeavesWordsPart, Reply as WholeReply};
+ghost use Rattle.command_line.specs.CommandLines.{command_in};
+ghost use Rattle.command_tasks.specs.Loading.{Leaves, LeavesPart};
+ghost use Rattle.commands.specs.Replies.{Reply as WholeReply, wants_in};
 ghost use Rattle.flow_base.specs.Listed.{is_listed};
 
 use crate::answering::answer;
@@ -34,8 +36,10 @@ pub fn flowcheck<F: Files, K: Sink>(
         (reply : WholeReply) × IsReply (F.told files.old) (map string_bytes words.items) reply
         × IsPut reply result (K.told out.old) (K.told out.new) }
     ensures memory { result ≡ 8 → K.told out.new ≡ K.told out.old }
-    ensures loads { result ≢ 8 → LeavesWords (F.told files.old) (map string_bytes words.items) (F.told files.new) }
-    ensures first_loads { LeavesWordsPart (F.told files.old) (map string_bytes words.items) (F.told files.new) }
+    ensures loads { result ≢ 8 → Leaves (F.told files.old) (wants_in (command_in (map string_bytes words.items)))
+        (F.told files.new) }
+    ensures first_loads { LeavesPart (F.told files.old) (wants_in (command_in (map string_bytes words.items)))
+        (F.told files.new) }
     ensures faults { CountsFaults result (F.faults files.old) (F.faults files.new) (K.faults out.old) (K.faults
         out.new) }
 {

@@ -1,6 +1,6 @@
 -- Words and what a source tells have one status: so each status comes exactly where the reply has it.
-use Rattle.std.proofs.Common.{◌≡◌, ◌≤◌, ◌<◌, ◌∙◌, inl, inr, ℕ, List, length, Bool, true, false, codes, Option, Some, None, is_some, Result, Ok, Err, refl, sym, ap, subst, arith, ⊎_elim}
-use Rattle.std.proofs.lemmas.Bool.{cases_lt, false≢true}
+use Rattle.std.proofs.Common.{◌≡◌, ◌∙◌, inl, inr, ℕ, List, length, Bool, true, false, codes, Option, Some, None, is_some, Result, Ok, Err, refl, sym, ap, subst, arith}
+use Rattle.std.proofs.lemmas.Bool.{false≢true}
 use Rattle.std.specs.Prelude.{◌++◌}
 use Rattle.std.specs.Fmt.{decimal}
 use Rattle.flow_base.specs.declared.outputs.Output.{Output}

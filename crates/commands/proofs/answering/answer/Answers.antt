@@ -4,6 +4,7 @@ use Rattle.command_line.specs.Words.{command_of}
 use Rattle.command_tasks.specs.ReadTasks.{task_in}
 use Rattle.command_tasks.proofs.Refusing.{err_apart, known_refusal}
 use Rattle.commands.proofs.FineAnswers.{task_blames_no_load}
+use Rattle.commands.proofs.Wanted.{all_loads, none_wanted}
 use Rattle.commands.proofs.answering.answer.Goals as goal
 
 pub returns-in_default-clause-answers : goal.returns-in_default-clause-answers
@@ -12,7 +13,7 @@ returns-in_default-clause-answers g c = λ known.
 
 pub returns-in_default-clause-leaves : goal.returns-in_default-clause-leaves
 returns-in_default-clause-leaves g c = λ known.
-    inl (sym (rw c.in_default.is at c.in_ok-command.ensures), refl)
+    none_wanted (g.F.Files.told c.args.files.now) _ (rw c.in_default.is at c.in_ok-command.ensures)
 
 pub returns-in_err-loaded-clause-answers : goal.returns-in_err-loaded-clause-answers
 returns-in_err-loaded-clause-answers g c = λ known.
@@ -34,11 +35,9 @@ returns-in_err-loaded-clause-leaves g c = λ known.
     let refusal = c.in_err-loaded.field-0.0 in
     let same : c.from_residual-in_err-loaded.result ≡ Err refusal = grind (arith, common_steps) in
     let apart = known_refusal refusal c.from_residual-in_err-loaded.result same known in
-    inr (
-      command_of c.in-Some.command,
-      sym (rw c.in-Some.is at c.in_ok-command.ensures),
-      rw (c.as_slice.ensures, c.in_ok-wants.ensures) at c.in_err-loaded.ensures.leaves (err_apart refusal (Err refusal) refl apart),
-    )
+    all_loads (g.F.Files.told c.args.files.now) _ (command_of c.in-Some.command) _
+    (rw c.in-Some.is at c.in_ok-command.ensures)
+    (rw (c.as_slice.ensures, c.in_ok-wants.ensures) at c.in_err-loaded.ensures.leaves (err_apart refusal (Err refusal) refl apart))
 
 pub returns-in_err-task-clause-answers : goal.returns-in_err-task-clause-answers
 returns-in_err-task-clause-answers g c = λ known.
