@@ -111,7 +111,8 @@ pub fn files_of_many_runs<'a>(
     runs: &ManyRunsWords,
     files: &'a [Bytes],
 ) -> (GuestFiles<'a>, &'a [Bytes])
-    requires within { AreWithin (guest_wants (guest_of runs.now.guest) [] (map (λ word. word.now) runs.now.secrets)) files.now }
+    requires within { AreWithin (guest_wants (guest_of runs.now.guest) [] (map (λ word. word.now) runs.now.secrets))
+        files.now }
     ensures are { AreGuestFiles (guest_of runs.now.guest) files.entry.now (files_in result.0) [] result.1.now }
     ensures program { length result.0.program.now ≤ 16777216 }
     ensures short { AreShort result.1.now }

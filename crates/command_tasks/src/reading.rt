@@ -109,7 +109,8 @@ fn read_check<'a>(
 ) -> Result<CheckTask<'a>, Refusal>
     requires within { AreWithin (guest_wants (guest_of check.now.guest) (want check.now.cut.now kinds.Cut ∷ [])
         (map (λ word. word.now) check.now.secrets)) files.now }
-    ensures ok { IfOk result (λ task. AreCutFiles (guest_of check.now.guest) files.entry.now (guest_in task.guest) (cut_picture task.cut) task.secrets.now) }
+    ensures ok { IfOk result (λ task. AreCutFiles (guest_of check.now.guest) files.entry.now (guest_in task.guest)
+        (cut_picture task.cut) task.secrets.now) }
     ensures settings { IfOk result (λ task. task.settings ≡ check.now.settings) }
     ensures bounded { IfOk result (λ task. IsBoundedCheck task) }
     ensures err { IfErr result (λ refusal. refusal ≢ Memory → IsCutFilesRefusal (guest_of check.now.guest) files.entry.now
@@ -134,7 +135,8 @@ fn read_all_secrets<'a>(
 ) -> Result<AllSecretsTask<'a>, Refusal>
     requires within { AreWithin (guest_wants (guest_of all.now.guest) (want all.now.cut.now kinds.Cut ∷ []) [])
         files.now }
-    ensures ok { IfOk result (λ task. AreCutFiles (guest_of all.now.guest) files.entry.now (guest_in task.guest) (cut_picture task.cut) []) }
+    ensures ok { IfOk result (λ task. AreCutFiles (guest_of all.now.guest) files.entry.now (guest_in task.guest)
+        (cut_picture task.cut) []) }
     ensures settings { IfOk result (λ task. task.settings ≡ all.now.settings) }
     ensures bounded { IfOk result (λ task. IsBoundedAll task) }
     ensures err { IfErr result (λ refusal. refusal ≢ Memory → IsCutFilesRefusal (guest_of all.now.guest)
@@ -153,7 +155,8 @@ fn read_all_secrets<'a>(
 /// The run that is to be told of.
 fn read_run<'a>(alloc: Global, run: &RunWords, files: &'a [Bytes]) -> Result<RunTask<'a>, Refusal>
     requires within { AreWithin (guest_wants (guest_of run.now.guest) [] (run.now.secret.now ∷ [])) files.now }
-    ensures ok { IfOk result (λ task. AreRunFiles (guest_of run.now.guest) files.entry.now (guest_in task.guest) (task.secret.now ∷ [])) }
+    ensures ok { IfOk result (λ task. AreRunFiles (guest_of run.now.guest) files.entry.now (guest_in task.guest)
+        (task.secret.now ∷ [])) }
     ensures settings { IfOk result (λ task. task.settings ≡ run.now.settings) }
     ensures bounded { IfOk result (λ task. IsBoundedRun task) }
     ensures err { IfErr result (λ refusal. refusal ≢ Memory → IsGuestFilesRefusal (guest_of run.now.guest) files.entry.now
@@ -174,8 +177,10 @@ fn read_many_runs<'a>(
     runs: &ManyRunsWords,
     files: &'a [Bytes],
 ) -> Result<ManyRunsTask<'a>, Refusal>
-    requires within { AreWithin (guest_wants (guest_of runs.now.guest) [] (map (λ word. word.now) runs.now.secrets)) files.now }
-    ensures ok { IfOk result (λ task. AreRunFiles (guest_of runs.now.guest) files.entry.now (guest_in task.guest) task.secrets.now) }
+    requires within { AreWithin (guest_wants (guest_of runs.now.guest) [] (map (λ word. word.now) runs.now.secrets))
+        files.now }
+    ensures ok { IfOk result (λ task. AreRunFiles (guest_of runs.now.guest) files.entry.now (guest_in task.guest)
+        task.secrets.now) }
     ensures settings { IfOk result (λ task. task.settings ≡ runs.now.settings) }
     ensures bounded { IfOk result (λ task. AreBoundedRuns task) }
     ensures err { IfErr result (λ refusal. refusal ≢ Memory → IsGuestFilesRefusal (guest_of runs.now.guest) files.entry.now

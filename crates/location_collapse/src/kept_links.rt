@@ -166,7 +166,8 @@ impl KeptLinks {
     #[inline(never)]
     pub fn put(&mut self, link: NamedLink) -> Result<(), CollapseFault>
         requires new { is_among (keys_of self.old.named.map.entries) link ≡ false }
-        ensures ok { OnOk result (TakesLinks (keys_of self.old.named.map.entries) (keys_of self.new.named.map.entries) (link ∷ [])) }
+        ensures ok { OnOk result (TakesLinks (keys_of self.old.named.map.entries)
+            (keys_of self.new.named.map.entries) (link ∷ [])) }
         ensures err { OnErr result (keys_of self.new.named.map.entries ≡ keys_of self.old.named.map.entries) }
         ensures full { result ≡ Err CollapseFault.Limit → HasAllLinks (keys_of self.old.named.map.entries) }
         ensures latest { self.new.named.latest ≡ self.old.named.latest }

@@ -15,7 +15,8 @@ use Rattle.task_answers.specs.Answers.{Answer, Reads, done_by}
 use Rattle.task_answers.specs.CutTexts.{IsCutText}
 
 abbrev pub setup_in : ManyRunsTask → Setup
-setup_in runs = setup_of runs.settings.table runs.guest.program runs.guest.public_input runs.guest.regions runs.settings.turns
+setup_in runs =
+    setup_of runs.settings.table runs.guest.program runs.guest.public_input runs.guest.regions runs.settings.turns
 
 -- What is measured of the runs: each secret is accepted with the one cut, and with its fold, within the one number of bits
 -- and the same turns; the texts of both are short enough for a cut file.

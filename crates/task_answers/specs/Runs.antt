@@ -32,7 +32,8 @@ pub record IsMeasured (run : RunTask) (measured : Measured) : Type 0 where
 -- why it is refused
 abbrev pub IsRunRefusal : RunTask → Refusal → Type 0
 IsRunRefusal run refusal =
-    IsRefusedBy (λ fault. HasCause run.settings.table run.guest.regions (start_of run) run.settings.turns fault × (fault ≢ NoRoomForRun))
+    IsRefusedBy (λ fault.
+    HasCause run.settings.table run.guest.regions (start_of run) run.settings.turns fault × (fault ≢ NoRoomForRun))
     RunRefused refusal
 
 -- why the run is refused, or what is measured of it, and what comes of that

@@ -42,7 +42,8 @@ fn verdict_on(
     ensures answer { IfOk result (λ verdict. IsVerdict (rules_by all.now.settings.table (public_of (all_secrets_in all.now)))
         (seen_task (public_of (all_secrets_in all.now)) (judged_by (all_secrets_in all.now).guest (all_secrets_in all.now).cut))
         (bound_limits (all_secrets_in all.now)) all.now.settings.paths verdict) }
-    ensures all { TellsOf (public_of (all_secrets_in all.now)) (judged_by (all_secrets_in all.now).guest (all_secrets_in all.now).cut)
+    ensures all { TellsOf (public_of (all_secrets_in all.now))
+        (judged_by (all_secrets_in all.now).guest (all_secrets_in all.now).cut)
         (bound_limits (all_secrets_in all.now)) (bound_of (all_secrets_in all.now)) }
 {
     tables_have_rules();
@@ -64,7 +65,8 @@ fn verdict_on(
 /// The reply to what all paths show.
 fn bounded_reply(alloc: Global, all: &AllSecretsTask, found: &Bounded) -> Result<Reply, NoMemory>
     ensures { IfOk result (λ reply. (all_found : Found) → summary_in found.now ≡ summary_of all_found →
-        TellsOf (public_of (all_secrets_in all.now)) (judged_by (all_secrets_in all.now).guest (all_secrets_in all.now).cut)
+        TellsOf (public_of (all_secrets_in all.now))
+        (judged_by (all_secrets_in all.now).guest (all_secrets_in all.now).cut)
         (bound_limits (all_secrets_in all.now)) (IsBounded all_found) →
         AnswersBound (all_secrets_in all.now) (IsBounded all_found) (Fine reply)) }
 {
