@@ -1,4 +1,5 @@
 pub mod Strings
+pub mod FourBits
 pub mod Nodes
 pub mod Ruled
 pub mod OneVisit

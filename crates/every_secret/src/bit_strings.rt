@@ -1,6 +1,7 @@
 //! The strings of paths, one after another.
 
-ghost use Rattle.std.specs.Prelude.{◌≡◌, ◌+◌, ◌<◌, ◌≤◌, ◌++◌, ◌∷◌, [], length, take, true, IfOk, IfSome, Some, option_map, if◌then◌else◌};
+ghost use Rattle.std.specs.Prelude.{◌≡◌, ◌+◌, ◌^◌, ◌<◌, ◌≤◌, ◌++◌, ◌∷◌, [], length, take, true, IfOk, IfSome, OnOk, Some, option_map, if◌then◌else◌};
+ghost use Rattle.flow_base.specs.Words.{bits_under};
 ghost use Rattle.every_secret.specs.Paths.{next_string};
 
 use crossing_bits::Bits;
@@ -26,6 +27,26 @@ pub(crate) fn last_zero(bits: &[bool]) -> Option<usize>
     last
 }
 
+/// The number of four bits, the lowest first.
+#[tactic(auto, using(crate::proofs::FourBits::four_bits))]
+fn four(first: bool, second: bool, third: bool, fourth: bool) -> u32
+    ensures { bits_under result 15 ≡ first ∷ second ∷ third ∷ fourth ∷ [] }
+{
+    u32::from(first) + 2 * u32::from(second) + 4 * u32::from(third) + 8 * u32::from(fourth)
+}
+
+/// Puts bits at the end of a string. `NoMemory` where there is not enough.
+fn push_each(string: &mut Bits, bits: &[bool]) -> Result<(), NoMemory>
+    requires { length string.old.bits + length bits.now < 2 ^ 32 }
+    ensures bits { OnOk result (string.new.bits ≡ string.old.bits ++ bits.now) }
+    ensures taken { OnOk result (string.new.taken ≡ string.old.taken) }
+{
+    for bit in bits {
+        string.push_masked(u32::from(*bit), 1)?;
+    }
+    Ok(())
+}
+
 /// A string of these bits, of which none is taken, with room for so many. `NoMemory` where there is not enough.
 fn with_bits(alloc: Global, bits: &[bool], room: u32) -> Result<Bits, NoMemory>
     requires { length bits.now ≤ room }
@@ -33,9 +54,12 @@ fn with_bits(alloc: Global, bits: &[bool], room: u32) -> Result<Bits, NoMemory>
     ensures taken { IfOk result (λ string. string.taken ≡ 0) }
 {
     let mut string = Bits::with_room(alloc, room)?;
-    for bit in bits {
-        string.push_masked(u32::from(*bit), 1)?;
+    let mut part = bits;
+    while let [first, second, third, fourth, others @ ..] = part {
+        string.push_masked(four(*first, *second, *third, *fourth), 15)?;
+        part = others;
     }
+    push_each(&mut string, part)?;
     Ok(string)
 }
 

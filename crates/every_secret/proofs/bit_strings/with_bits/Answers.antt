@@ -1,25 +1,9 @@
-use Rattle.std.proofs.Common.{◌<◌, ◌++◌, take, false, get_or, length, sym, ap, ap₂, ◌∙◌, arith, add-one}
-use Rattle.std.proofs.Math.Seq.{take-suc}
-use Rattle.std.proofs.lemmas.List.{length-take-le}
-use Rattle.flow_base.specs.Words.{bits_under}
-use Rattle.every_secret.proofs.Strings.{count_one}
-use Rattle.every_secret.proofs.Trees.{bit_under}
+use Rattle.std.proofs.Common.{List, Bool, length, length-append, ap, arith}
+use Rattle.every_secret.proofs.FourBits.{count_four}
 use Rattle.every_secret.proofs.bit_strings.with_bits.Goals as goal
 
 pub push_masked-requires : goal.push_masked-requires
 push_masked-requires c =
-    let long = ap (λ s. length s) c.loop-bit.invariant.bits in
-    let front = length-take-le c.loop-bit.bit-index c.args.bits.now (omega (arith, c.loop-bit-test.true)) in
-    omega (arith, count_one, long, front, c.requires, c.loop-bit-test.true)
-
-pub loop-bit-preserved : goal.loop-bit-preserved
-loop-bit-preserved c =
-    let bits = c.args.bits.now in
-    let index = c.loop-bit.bit-index in
-    let below : index < length bits = omega arith in record {
-      bits = c.in_ok-push_masked.ensures.pushed
-          ∙ (ap₂ (λ s t. s ++ t) c.loop-bit.invariant.bits (ap (λ n. bits_under n 1) c.from.ensures
-          ∙ bit_under (get_or bits index false))
-          ∙ sym (ap (λ n. take n bits) (add-one index) ∙ take-suc bits index false below));
-      taken = c.in_ok-push_masked.ensures.taken ∙ c.loop-bit.invariant.taken;
-    }
+    let long = ap (λ (s : List Bool). length s) c.loop-part.invariant.bits in
+    let both = length-append c.loop-part.string.bits c.loop-part.part.now in
+    omega (arith, count_four, long, both, c.in-len4-up.len_at_least, c.requires, c.ranges.room.fits)
