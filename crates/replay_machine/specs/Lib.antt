@@ -3,7 +3,6 @@ pub mod Runs
 pub mod Starts
 pub mod Visits
 pub mod Tables
-pub mod Trims
 pub mod Standing
 pub mod MarkTexts
 pub mod Private
