@@ -59,7 +59,7 @@ is_point_end end = false
 
 abbrev pub leads_on : End → End → Bool
 leads_on Source target = is_point_end target
-leads_on source target = true
+leads_on other target = true
 
 abbrev pub is_link : ℕ → List ℕ → Arc → Bool
 is_link count relays link =
