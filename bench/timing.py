@@ -1,7 +1,8 @@
 """What a command takes: seconds, the seconds in which processors worked for it, memory, or instructions.
 
 A measure is called with the words of a command, the first of them an absolute path, and a folder for what the command
-puts, which is then in its file `put`. It gives what was taken, the most memory in bytes, the status, and what was put."""
+puts, which is then in its file `put`. It gives what was taken, the most memory in bytes, the status, and what was put.
+What stands on standard error is left out."""
 import argparse
 import os
 import pathlib
@@ -19,6 +20,7 @@ def spent(words, folder):
         try:
             out = os.open(put, os.O_WRONLY | os.O_CREAT | os.O_TRUNC)
             os.dup2(out, 1)
+            os.dup2(os.open(os.devnull, os.O_WRONLY), 2)
             os.execv(words[0], words)
         finally:
             os._exit(127)
