@@ -8,9 +8,8 @@ reason and how many let bits cross at each slot, and last how many trials agree 
 that differ are kept in a folder that is named; then the status is 1. Python 3 only."""
 import collections
 import sys
-import tempfile
 
-from comparing import Differing, Folder, family, parser_of, seeds_of, show_counts, show_slots
+from comparing import FLAG, Comparison, Counts, family
 from trials import random_trial
 from verdicts import Command, answer
 
@@ -40,16 +39,21 @@ def reason(judged):
     return " ".join(begin)
 
 
-class Counts:
+class Judgements(Counts):
     """What the trials had."""
 
     def __init__(self):
-        self.reasons, self.slots, self.accepted_slots, self.others = (collections.Counter() for _ in range(4))
+        super().__init__()
+        self.accepted_slots = collections.Counter()
+
+    def slot_words(self, slot):
+        """What is said of a slot."""
+        return f"with bits at {slot}, accepted {self.accepted_slots[slot]}"
 
     def add(self, judgements):
         """Counts the judgements of a trial."""
         for judged in judgements:
-            self.reasons[reason(judged)] += 1
+            self.kinds[reason(judged)] += 1
             slots = {family(slot) for slot in judged.slots}
             self.slots.update(slots)
             self.others["secrets"] += 1
@@ -59,42 +63,26 @@ class Counts:
                 self.accepted_slots.update(slots)
                 self.others["accepted with crossing bits"] += bool(judged.bits)
 
-    def show(self):
-        """Prints the counts."""
-        show_counts(self.reasons)
-        show_slots(self.slots, lambda slot: f"with bits at {slot}, accepted {self.accepted_slots[slot]}")
-        show_counts(self.others)
 
+class Checks(Comparison):
+    """The comparison of `check`."""
 
-def compare(words):
-    """Compares the trials; the status."""
-    counts, differing = Counts(), Differing("model")
-    for seed in seeds_of(words):
-        files, check = random_trial(seed, words.patterns)
+    name, wants_program, options, counted = "model", True, {"--patterns": FLAG}, Judgements
+
+    def try_trial(self, seed):
+        """Makes one trial."""
+        files, check = random_trial(seed, self.words.patterns)
         command = Command(files, check)
         judgements = command.judgements()
-        counts.add(judgements)
-        with tempfile.TemporaryDirectory() as path:
-            given = Folder(words.executable, path, files).run("check", *check)
-        expected, texts = answer(judgements, command.budget), []
-        if expected != given:
-            texts.append(f"{given} for {expected}")
+        self.counts.add(judgements)
+        expected, given = answer(judgements, command.budget), self.given(files, "check", *check)
+        texts = [f"{given} for {expected}"] if expected != given else []
         if seed % DEFINED_EACH == 0:
             tried, wrong = command.disagreements(judgements, DEFINED_TURNS)
-            counts.others["judged by the definition of acceptance too"] += tried
+            self.counts.others["judged by the definition of acceptance too"] += tried
             texts += [f"judged otherwise by the definition of acceptance: {wrong}"] if wrong else []
-        if texts:
-            differing.keep(seed, files, ["check", *check], texts, {"model": expected, "program": given})
-    counts.show()
-    return differing.show(words.count)
-
-
-def main():
-    """Reads the words of the command."""
-    parser = parser_of(__doc__, wants_program=True)
-    parser.add_argument("--patterns", action="store_true")
-    return compare(parser.parse_args())
+        return files, ["check", *check], texts, {"model": expected, "program": given}
 
 
 if __name__ == "__main__":
-    sys.exit(main())
+    sys.exit(Checks.main(__doc__))

@@ -27,12 +27,11 @@ words of those that differ are kept in a folder that is named; then the status i
 import collections
 import random
 import sys
-import tempfile
 
 from answers import read_words
 from bound_trials import Wanted, bound_trial, lacking, task_of
 from bounds import Bounds, Walk, path_of, path_text, stands_for
-from comparing import Differing, Folder, family, parser_of, seeds_of, show_counts, show_slots
+from comparing import FLAG, Comparison, Counts, difference, family, number_option, show_counts
 from kept_guests import kept_trials
 from met_guests import met_trials
 from public_guests import public_trials
@@ -75,38 +74,63 @@ def is_limited(task, status, text):
     return text == f"unclear {path_text(bits)} paths {task.paths}\n" and walk.choices[: len(bits)] == bits and 0 in bits
 
 
-class Comparison:
-    """A comparison of trials."""
+def table_numbers(text):
+    """Tables of the mask rules, for argparse."""
+    return tuple(map(int, text.split(",")))
 
-    def __init__(self, words):
-        self.words, self.counts, self.slots = words, collections.Counter(), collections.Counter()
-        self.differing, self.meetings = Differing("bounds"), collections.Counter()
 
-    def count(self, bounds):
+class Answers(Counts):
+    """What the trials had."""
+
+    def __init__(self):
+        super().__init__()
+        self.meetings = collections.Counter()
+
+    def slot_words(self, slot):
+        """What is said of a slot."""
+        return f"bounded with {slot} in the cut"
+
+    def add(self, bounds):
         """Counts the answer of a trial."""
         task = bounds.task
-        self.counts[kind_of(bounds)] += 1
+        self.kinds[kind_of(bounds)] += 1
         self.meetings.update(bounds.meetings)
         if not bounds.unclear:
             self.slots.update({family(point[2]) for point in task.cut.points})
-            self.counts[f"bounded by table {task.table}"] += 1
-            self.counts["bounded by several paths"] += bounds.paths > 1
-            self.counts["bounded with several outputs"] += bounds.outputs() > 1
-            self.counts["bounded with fewer outputs than paths"] += bounds.outputs() < bounds.paths
-            self.counts["bounded with free bits"] += any(any(one[2]) or one[3] for one in bounds.patterns)
-            self.counts["bounded with stops"] += bool(bounds.stopped)
-            self.counts["bounded with states that are met"] += bool(bounds.meetings["met"])
-            self.counts["bounded of any public input"] += task.is_any_public
-            self.counts["bounded with more paths than walks may be made"] += is_many(bounds)
-            self.counts["bounded with regions"] += bool(task.regions)
-            self.counts["bounded with a skipped region"] += bool(set(task.cut.skip) & {
-                region.number for region in task.regions})
-            self.counts["bounded without regions and stops"] += not task.regions and not bounds.stopped
+            skipped = set(task.cut.skip) & {region.number for region in task.regions}
+            self.kinds.update({f"bounded {name}": int(holds) for name, holds in {
+                f"by table {task.table}": True,
+                "by several paths": bounds.paths > 1,
+                "with several outputs": bounds.outputs() > 1,
+                "with fewer outputs than paths": bounds.outputs() < bounds.paths,
+                "with free bits": any(any(one[2]) or one[3] for one in bounds.patterns),
+                "with stops": bool(bounds.stopped),
+                "with states that are met": bool(bounds.meetings["met"]),
+                "of any public input": task.is_any_public,
+                "with more paths than walks may be made": is_many(bounds),
+                "with regions": bool(task.regions),
+                "with a skipped region": bool(skipped),
+                "without regions and stops": not task.regions and not bounds.stopped,
+            }.items()})
+
+    def show(self):
+        """Prints the counts."""
+        show_counts(self.kinds)
+        self.kinds = self.meetings
+        super().show()
+
+
+class BoundTrials(Comparison):
+    """The comparison of `bound`."""
+
+    name, counted = "bounds", Answers
+    tables = {"type": table_numbers, "default": (1, 2, 3), "metavar": "N,.."}
+    options = {"--secrets": number_option(50), "--tables": tables, "--paths": number_option(0)} | dict.fromkeys(("--any-public", "--loops", "--random"), FLAG)
 
     def each_wrongs(self, bounds):
         """What is wrong where each path is walked."""
         if bounds.paths <= EACH_WALKED:
-            self.counts["each path walked too"] += 1
+            self.counts.kinds["each path walked too"] += 1
             each = Bounds(bounds.task, EACH_WALKED + 1, False)
             if (each.text(True), each.paths) != (bounds.text(True), bounds.paths):
                 yield f"{bounds.text(True)}, but each path walked {each.text(True)}"
@@ -114,7 +138,7 @@ class Comparison:
     def secret_wrongs(self, bounds, pair, judged, real):
         """What is wrong with a public input and a secret of a bounded guest."""
         task, ending, name = bounds.task, ENDINGS[real.ending[0]], " secret ".join(map(bytes.hex, pair))
-        self.counts[f"secrets: run {ending}"] += 1
+        self.counts.kinds[f"secrets: run {ending}"] += 1
         if real.ending[0] != "exited":
             if not task.regions and not bounds.stopped:
                 yield f"the run of public {name} {ending}"
@@ -126,8 +150,8 @@ class Comparison:
         if not any(stands_for(pattern, written, status) for pattern in bounds.patterns):
             yield f"public {name} has the output {written.hex()} status {status}, which is not listed"
         found = find(task.image, *pair, task.regions, task.cut, task.table, task.budget, task.turns)
-        self.counts["secrets: accepted and clean"] += found.word == "clean"
-        self.counts["secrets: accepted and not clean"] += found.word != "clean"
+        self.counts.kinds["secrets: accepted and clean"] += found.word == "clean"
+        self.counts.kinds["secrets: accepted and not clean"] += found.word != "clean"
 
     def bounded_wrongs(self, seed, bounds):
         """What is wrong with a guest that is bounded, and for each public input the secrets that were tried with their
@@ -144,33 +168,30 @@ class Comparison:
                 wrongs += self.secret_wrongs(bounds, (public, secret), judgements[-1], real)
             judged.append((public, secrets, judgements))
         if task.is_any_public and task.cut.secret_length == 1:
-            wrongs += lists_wrongs(seed, bounds, self.counts)
+            wrongs += lists_wrongs(seed, bounds, self.counts.kinds)
         return wrongs, judged
 
     def program_wrongs(self, files, words, bounds, judged):
         """What is wrong with the answers of the program."""
         _, plain, options = read_words(words)
-        with tempfile.TemporaryDirectory() as path:
-            folder = Folder(self.words.executable, path, files)
+        kept = [f"{name}={options[name]}" for name in ("--regions", "--turns") if name in options]
+        with self.folder(files) as folder:
             expected, given = bounds.text("--list" in options), folder.run(*words)
-            if given != expected and not (is_many(bounds) and is_limited(bounds.task, *given)):
-                yield f"bound: {given} for {expected}"
-            self.counts["bound: the walks were not enough"] += given != expected
-            kept = [f"{name}={options[name]}" for name in ("--regions", "--turns") if name in options]
+            if not (is_many(bounds) and is_limited(bounds.task, *given)):
+                yield from difference("bound", given, expected)
+            self.counts.kinds["bound: the walks were not enough"] += given != expected
             for public, secrets, judgements in judged:
                 named = {f"secret{number}": secret for number, secret in enumerate(secrets, 1)}
-                folder = Folder(self.words.executable, path, named | {"public": public})
+                folder.write(named | {"public": public})
                 for first in range(0, len(named), 64):
                     some = list(named)[first : first + 64]
                     expected = answer(judgements[first : first + 64], plain[3])
-                    given = folder.run("check", *plain, *some, *kept)
-                    if given != expected:
-                        yield f"check: {given} for {expected}"
+                    yield from difference("check", folder.run("check", *plain, *some, *kept), expected)
 
     def try_trial(self, name, files, words, expected=None):
         """Makes one trial; of one that was made by hand the text is known."""
         bounds = whole(task_of(files, words))
-        self.count(bounds)
+        self.counts.add(bounds)
         texts, judged = list(self.each_wrongs(bounds)), []
         if expected is not None and bounds.text("--list" in words)[1] != expected:
             texts.append(f"{bounds.text('--list' in words)} for {expected}")
@@ -183,46 +204,20 @@ class Comparison:
         if without:
             less = whole(task_of(without, words))
             texts += self.each_wrongs(less)
-            self.counts[f"without a point: {kind_of(less)}"] += 1
+            self.counts.kinds[f"without a point: {kind_of(less)}"] += 1
             texts += self.program_wrongs(without, words, less, []) if self.words.executable else []
-        if texts:
-            self.differing.keep(name, files, words, texts)
+        return files, words, texts
 
-    def by_hand(self):
-        """The trials that were made by hand; those by table 3 only where that is wanted."""
-        trials = kept_trials() + met_trials() + public_trials()
-        return trials + (range_trials() if 3 in self.words.tables else [])
-
-    def make(self):
-        """Makes all trials; the status."""
+    def trials(self):
+        """The trials that were made by hand, those by table 3 only where that is wanted, and the random ones."""
         words = self.words
-        by_hand = [] if words.random else self.by_hand()
-        for name, files, line, expected in by_hand:
-            self.try_trial(name, files, line, expected)
+        if not words.random:
+            yield from kept_trials() + met_trials() + public_trials()
+            yield from range_trials() if 3 in words.tables else []
         wanted = Wanted(words.tables, words.any_public, words.loops, words.paths)
-        for seed in seeds_of(words):
-            self.try_trial(str(seed), *bound_trial(seed, wanted))
-        show_counts(self.counts)
-        show_counts(self.meetings)
-        show_slots(self.slots, lambda slot: f"bounded with {slot} in the cut")
-        return self.differing.show(words.count + len(by_hand))
-
-
-def table_numbers(text):
-    """Tables of the mask rules, for argparse."""
-    return tuple(map(int, text.split(",")))
-
-
-def main():
-    """Reads the words of the command."""
-    parser = parser_of(__doc__)
-    parser.add_argument("--secrets", type=int, default=50, metavar="N")
-    parser.add_argument("--tables", type=table_numbers, default=(1, 2, 3), metavar="N,..")
-    parser.add_argument("--paths", type=int, default=0, metavar="N")
-    for flag in ("--any-public", "--loops", "--random"):
-        parser.add_argument(flag, action="store_true")
-    return Comparison(parser.parse_args()).make()
+        for (seed,) in super().trials():
+            yield str(seed), *bound_trial(seed, wanted)
 
 
 if __name__ == "__main__":
-    sys.exit(main())
+    sys.exit(BoundTrials.main(__doc__))

@@ -8,14 +8,12 @@ must answer as the model does, and its `check` must say the same of what is left
 
 Prints what the trials had, and last how many agree and differ. The files and words of those that differ are kept in a
 folder that is named; then the status is 1."""
-import collections
 import random
 import re
 import sys
-import tempfile
 
 from answers import answer_to
-from comparing import Differing, Folder, parser_of, seeds_of, show_counts
+from comparing import Comparison, difference, number_option
 from cuts import Cut, read_regions
 from guest import Image, Region
 from learns import regions_text
@@ -150,82 +148,50 @@ class Minimal:
         return self.files | {"part": regions_text(regions).encode()}
 
 
-def judged_by_model(minimal):
-    """How the model judges files."""
-    return lambda files: answer_to(files, minimal.words)[1]
+class Learns(Comparison):
+    """The comparison of `learn`."""
 
+    name, options = "learns", {"--minimal-each": number_option(5)}
 
-def judged_by_program(minimal, executable):
-    """How the program judges files."""
-
-    def judge(files):
-        """The text of `check`."""
-        with tempfile.TemporaryDirectory() as path:
-            return Folder(executable, path, files).run(*minimal.words)[1]
-
-    return judge
-
-
-class Comparison:
-    """A comparison of trials."""
-
-    def __init__(self, words):
-        self.words, self.counts, self.differing = words, collections.Counter(), Differing("learns")
-
-    def wrongs(self, files, words, expected):
-        """What is wrong with the answers of the program to a trial."""
-        with tempfile.TemporaryDirectory() as path:
-            given = Folder(self.words.executable, path, files).run("learn", *words)
-        if given != expected:
-            yield f"learn: {given} for {expected}"
+    def judge_of(self, minimal):
+        """How the program judges files, or the model where there is none."""
+        if self.words.executable:
+            return lambda files: self.given(files, *minimal.words)[1]
+        return lambda files: answer_to(files, minimal.words)[1]
 
     def minimal_wrongs(self, seed, files, words, text):
         """What is wrong with what is left out."""
-        minimal, executable = Minimal(files, words, text), self.words.executable
-        judge = judged_by_program(minimal, executable) if executable else judged_by_model(minimal)
-        self.counts["entries left out in turn"] += len(minimal.sample(random.Random(0)))
-        self.counts["guests of which entries are left out"] += bool(minimal.parts)
-        yield from minimal.wrongs(judge, random.Random(f"left out {seed}"))
+        minimal = Minimal(files, words, text)
+        self.counts.kinds["entries left out in turn"] += len(minimal.sample(random.Random(0)))
+        self.counts.kinds["guests of which entries are left out"] += bool(minimal.parts)
+        return list(minimal.wrongs(self.judge_of(minimal), random.Random(f"left out {seed}")))
 
-    def try_seed(self, seed):
+    def try_trial(self, seed):
         """Makes one trial."""
         files, words = learn_trial(seed)
-        expected, texts = answer_to(files, ["learn", *words]), []
+        command, texts = ["learn", *words], []
+        expected = answer_to(files, command)
         self.count(*expected)
         if self.words.executable:
-            texts += self.wrongs(files, words, expected)
+            texts += difference("learn", self.given(files, *command), expected)
         if expected[0] == 0 and seed % self.words.minimal_each == 0:
             texts += self.minimal_wrongs(seed, files, words, expected[1])
-        if texts:
-            self.differing.keep(seed, files, ["learn", *words], texts)
+        return files, command, texts
 
     def count(self, status, text):
         """Counts an answer."""
+        counts = self.counts.kinds
         if status:
             words = text.split()[2:]
-            self.counts[f"refused {words[2] if words[0] == 'region' else words[0]}"] += 1
+            counts[f"refused {words[2] if words[0] == 'region' else words[0]}"] += 1
             return
         regions = read_regions(text.encode())
-        self.counts["learnt"] += 1
-        self.counts["with regions"] += bool(regions)
+        counts["learnt"] += 1
+        counts["with regions"] += bool(regions)
         for key in ("outs", "keep", "ranges"):
-            self.counts[f"with {key}"] += any(getattr(region, key) for region in regions)
-        self.counts["with several ranges"] += any(len(region.ranges) > 1 for region in regions)
-
-    def make(self):
-        """Makes all trials; the status."""
-        for seed in seeds_of(self.words):
-            self.try_seed(seed)
-        show_counts(self.counts)
-        return self.differing.show(self.words.count)
-
-
-def main():
-    """Reads the words of the command."""
-    parser = parser_of(__doc__)
-    parser.add_argument("--minimal-each", type=int, default=5, metavar="N")
-    return Comparison(parser.parse_args()).make()
+            counts[f"with {key}"] += any(getattr(region, key) for region in regions)
+        counts["with several ranges"] += any(len(region.ranges) > 1 for region in regions)
 
 
 if __name__ == "__main__":
-    sys.exit(main())
+    sys.exit(Learns.main(__doc__))

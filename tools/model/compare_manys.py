@@ -9,16 +9,14 @@ number.
 
 Prints what the trials had, and last how many agree and differ. The files and words of those that differ are kept in a
 folder that is named; then the status is 1."""
-import collections
 import random
 import sys
-import tempfile
 
-import flows
 from answers import Ended, cut_text, many_of, measured_of, read_words
 from compare_measures import without_options
-from comparing import Differing, Folder, family, parser_of, seeds_of, show_counts, show_slots
+from comparing import Comparison, Counts, difference, family
 from cuts import read_cut
+from measure_checks import second_wrongs
 from trials import random_guest, spelled, usual_options
 from verdicts import Command
 from ways import ways_program
@@ -38,52 +36,57 @@ def many_trial(seed):
     return files, ["program", "public", *named, *spelled(dice, options)]
 
 
-class Comparison:
-    """A comparison of trials."""
+class Together(Counts):
+    """What the trials had."""
 
-    def __init__(self, words):
-        self.words, self.counts, self.slots = words, collections.Counter(), collections.Counter()
-        self.differing = Differing("manys")
+    def slot_words(self, slot):
+        """What is said of a slot."""
+        return f"with {slot} in the cut"
 
-    def count(self, many, single):
+    def add(self, many, single):
         """Counts what is measured."""
-        self.counts[f"measured {len(single)} secret{'s' if len(single) > 1 else ''}"] += 1
-        self.counts["with bits"] += bool(many.bits)
-        self.counts["with more bits than each run alone"] += many.bits > max(one.bits for one in single)
-        self.counts["with another cut than the first run"] += many.cut().text() != single[0].cut().text()
-        self.counts["with a skipped region"] += bool(many.skip)
+        self.kinds[f"measured {len(single)} secret{'s' if len(single) > 1 else ''}"] += 1
+        self.kinds["with bits"] += bool(many.bits)
+        self.kinds["with more bits than each run alone"] += many.bits > max(one.bits for one in single)
+        self.kinds["with another cut than the first run"] += many.cut().text() != single[0].cut().text()
+        self.kinds["with a skipped region"] += bool(many.skip)
         self.slots.update({family(point[2]) for point in many.cut().points})
 
-    def model_wrongs(self, files, options, plain, many):
-        """What is wrong with what the model measures."""
-        budget, cut = str(many.bits), many.cut()
-        options = {name: value for name, value in options.items() if name in ("--regions", "--turns")}
-        flat = [word for option in options.items() for word in option]
-        command = Command(files | {"cut": cut.text().encode()}, [*plain[:2], "cut", budget, *plain[2:], *flat])
-        for number, judged in enumerate(command.judgements(), 1):
-            if judged.word != "accepted":
-                yield f"secret {number} is {judged.word} {judged.text}"
-        if sum(many.united.capacity(point) for point in cut.points) != many.bits:
-            yield "the points of the cut have other capacities"
-        solved = many.solved
-        if flows.networkx and flows.second_opinion(many.graph) != (solved.value, solved.halves, solved.relays):
-            yield "networkx has another flow or side"
 
-    def program_wrongs(self, folder, words, expected):
-        """What is wrong with the answers of the program."""
-        given = folder.run("measure-all", *words)
-        if given != expected:
-            yield f"measure-all: {given} for {expected}"
-        elif given[0] == 0:
-            (folder.path / "cut").write_text(given[1])
-            bits, rest = str(read_cut(given[1].encode()).bits), without_options(words, ["--rules", "--cut"])
-            names = [word for word in rest if not word.startswith("secret")]
-            secrets = [word for word in rest if word.startswith("secret")]
-            status, text = folder.run("check", *names[:2], "cut", bits, *secrets, *names[2:])
-            if status:
-                yield f"check: {text}"
+def model_wrongs(files, options, plain, many):
+    """What is wrong with what the model measures."""
+    budget, cut = str(many.bits), many.cut()
+    options = {name: value for name, value in options.items() if name in ("--regions", "--turns")}
+    flat = [word for option in options.items() for word in option]
+    command = Command(files | {"cut": cut.text().encode()}, [*plain[:2], "cut", budget, *plain[2:], *flat])
+    for number, judged in enumerate(command.judgements(), 1):
+        if judged.word != "accepted":
+            yield f"secret {number} is {judged.word} {judged.text}"
+    if sum(many.united.capacity(point) for point in cut.points) != many.bits:
+        yield "the points of the cut have other capacities"
+    yield from second_wrongs(many)
 
-    def try_seed(self, seed):
+
+def program_wrongs(folder, words, expected):
+    """What is wrong with the answers of the program."""
+    given = folder.run("measure-all", *words)
+    yield from difference("measure-all", given, expected)
+    if given == expected and given[0] == 0:
+        (folder.path / "cut").write_text(given[1])
+        bits, rest = str(read_cut(given[1].encode()).bits), without_options(words, ["--rules", "--cut"])
+        names = [word for word in rest if not word.startswith("secret")]
+        secrets = [word for word in rest if word.startswith("secret")]
+        status, text = folder.run("check", *names[:2], "cut", bits, *secrets, *names[2:])
+        if status:
+            yield f"check: {text}"
+
+
+class Manys(Comparison):
+    """The comparison of `measure-all`."""
+
+    name, counted = "manys", Together
+
+    def try_trial(self, seed):
         """Makes one trial."""
         files, words = many_trial(seed)
         _, plain, options = read_words(["measure-all", *words])
@@ -92,32 +95,18 @@ class Comparison:
             many = many_of(files, plain, options)
             expected = 0, cut_text(many, options)
             single = [measured_of(files, [*plain[:2], name], options) for name in plain[2:]]
-            self.count(many, single)
-            texts += self.model_wrongs(files, options, plain, many)
+            self.counts.add(many, single)
+            texts += model_wrongs(files, options, plain, many)
             if len(single) == 1 and cut_text(single[0], options) != expected[1]:
                 texts.append("of one secret the cut is another")
         except Ended as ended:
             expected = ended.args
-            self.counts[f"refused {' '.join(expected[1].split()[2:5:2])}"] += 1
+            self.counts.kinds[f"refused {' '.join(expected[1].split()[2:5:2])}"] += 1
         if self.words.executable:
-            with tempfile.TemporaryDirectory() as path:
-                texts += self.program_wrongs(Folder(self.words.executable, path, files), words, expected)
-        if texts:
-            self.differing.keep(seed, files, ["measure-all", *words], texts)
-
-    def make(self):
-        """Makes all trials; the status."""
-        for seed in seeds_of(self.words):
-            self.try_seed(seed)
-        show_counts(self.counts)
-        show_slots(self.slots, lambda slot: f"with {slot} in the cut")
-        return self.differing.show(self.words.count)
-
-
-def main():
-    """Reads the words of the command."""
-    return Comparison(parser_of(__doc__).parse_args()).make()
+            with self.folder(files) as folder:
+                texts += program_wrongs(folder, words, expected)
+        return files, ["measure-all", *words], texts
 
 
 if __name__ == "__main__":
-    sys.exit(main())
+    sys.exit(Manys.main(__doc__))

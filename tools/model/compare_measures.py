@@ -16,13 +16,12 @@ folder that is named; then the status is 1."""
 import collections
 import random
 import sys
-import tempfile
 import time
 
 import flows
 from answers import Ended, measured_of, run_text
 from certificates import verify, without_flows
-from comparing import Differing, Folder, family, parser_of, seeds_of, show_counts, show_slots
+from comparing import FLAG, Comparison, Counts, difference, family, number_option
 from cuts import read_cut
 from measure_checks import Guest, narrowing_wrongs, wrongs
 from measure_trials import measure_trial, measure_words
@@ -74,17 +73,13 @@ def program_wrongs(folder, guest, measured, options, words, has_reports):
     yield from graph_wrongs(folder, model_answer(measured, "graph", given), folder.run("graph", *both))
     for flags in ([[], ["--json"]] if has_reports else []):
         expected = model_answer(measured, "report", dict.fromkeys(flags))
-        answered = folder.run("report", *both, *flags)
-        if expected != answered:
-            yield f"report {flags}: {answered} for {expected}"
+        yield from difference(f"report {flags}", folder.run("report", *both, *flags), expected)
 
 
 def trial_wrongs(folder, seed):
     """What is wrong with the answer of the program to `trial` of a number."""
-    number = random.Random(f"number {seed}").choice([seed, seed * 104_729 % (1 << 32)])
-    expected, answered = (0, trial_line(number)), folder.run("trial", str(number))
-    if expected != answered:
-        yield f"trial {number}: {answered} for {expected}"
+    chosen = random.Random(f"number {seed}").choice([seed, seed * 104_729 % (1 << 32)])
+    return difference(f"trial {chosen}", folder.run("trial", str(chosen)), (0, trial_line(chosen)))
 
 
 def without_options(words, names):
@@ -109,20 +104,25 @@ def kind_of(refusal):
     return f"region {words[2]}"
 
 
-class Counts:
-    """What the trials had."""
+class Runs(Counts):
+    """What the trials had by one table."""
 
     def __init__(self):
-        self.endings, self.passed, self.cut, self.others = (collections.Counter() for _ in range(4))
+        super().__init__()
+        self.cut = collections.Counter()
+
+    def slot_words(self, slot):
+        """What is said of a slot."""
+        return f"with secret bits at {slot}, in the cut {self.cut[slot]}"
 
     def add(self, measured):
         """Counts a run that is measured, or the text of its refusal."""
         if isinstance(measured, str):
-            self.endings["refused " + kind_of(measured)] += 1
+            self.kinds["refused " + kind_of(measured)] += 1
             return
         cut = measured.cut()
-        self.endings["measured" if measured.bits else "measured with no bit"] += 1
-        self.passed.update({family(point[2]) for point in measured.graph.points})
+        self.kinds["measured" if measured.bits else "measured with no bit"] += 1
+        self.slots.update({family(point[2]) for point in measured.graph.points})
         self.cut.update({family(point[2]) for point in cut.points})
         self.others["with a skipped region"] += bool(cut.skip)
         self.others["with a relay outside the side"] += len(cut.skip) < len(measured.graph.relays)
@@ -130,12 +130,6 @@ class Counts:
         self.others["with a pattern in the fold"] += any(not runs for runs, _ in cut.folded().points.values())
         self.others["with fewer bits than are read"] += measured.bits < 8 * measured.secret_length
         self.others["with several points in the cut"] += len(cut.points) > 1
-
-    def show(self):
-        """Prints the counts."""
-        show_counts(self.endings)
-        show_slots(self.passed, lambda slot: f"with secret bits at {slot}, in the cut {self.cut[slot]}")
-        show_counts(self.others)
 
 
 class Narrowing:
@@ -163,12 +157,15 @@ class Narrowing:
               f"it alone measures {self.alone}")
 
 
-class Comparison:
-    """A comparison of trials."""
+class Measures(Comparison):
+    """The comparison of `measure`, `graph`, `report` and `trial`."""
+
+    name, options = "measures", dict.fromkeys(("--rules", "--cut", "--reports"), FLAG) | {"--table": number_option(0)}
 
     def __init__(self, words):
-        self.words, self.counts = words, {table: Counts() for table in (1, 2, 3)}
-        self.differing, self.narrowing = Differing("measures"), {table: Narrowing(table) for table in (2, 3)}
+        super().__init__(words)
+        self.runs, self.begin = {table: Runs() for table in (1, 2, 3)}, time.monotonic()
+        self.narrowing = {table: Narrowing(table) for table in (2, 3)}
 
     def options_of(self, seed, options):
         """The options of a trial, perhaps with those that are asked for."""
@@ -188,55 +185,49 @@ class Comparison:
         except Ended as ended:
             return ended.args[1]
 
-    def try_seed(self, seed):
+    def model_wrongs(self, seed, guest, results):
+        """What is wrong with what the model measures by some tables."""
+        for table, measured in results.items():
+            self.runs[table].add(measured)
+            if not isinstance(measured, str):
+                for text in wrongs(guest, measured, seed % THOROUGH_EACH == 0):
+                    yield f"table {table}: {text}"
+        for table in list(results)[1:]:
+            yield from narrowing_wrongs(results[table - 1], results[table], table)
+            self.narrowing[table].add(results[table - 1], results[table])
+
+    def try_trial(self, seed):
         """Makes one trial."""
         files, options = measure_trial(seed)
         options = self.options_of(seed, options)
-        words, guest, texts = measure_words(seed, options), Guest(files, options), []
+        words, guest = measure_words(seed, options), Guest(files, options)
         asked = int(dict(options).get("--rules", 1))
         tables = (1, 2, 3) if asked == 3 or seed % 3 == 0 else (1, 2)
         results = {table: self.measured(files, options, table) for table in tables}
-        for table, measured in results.items():
-            self.counts[table].add(measured)
-            if not isinstance(measured, str):
-                texts += [f"table {table}: {text}" for text in wrongs(guest, measured, seed % THOROUGH_EACH == 0)]
-        for table in tables[1:]:
-            texts += narrowing_wrongs(results[table - 1], results[table], table)
-            self.narrowing[table].add(results[table - 1], results[table])
+        texts = list(self.model_wrongs(seed, guest, results))
         if self.words.executable:
-            measured = results[asked]
-            with tempfile.TemporaryDirectory() as path:
-                folder = Folder(self.words.executable, path, files)
-                texts += program_wrongs(folder, guest, measured, dict(options), words, self.words.reports)
+            with self.folder(files) as folder:
+                texts += program_wrongs(folder, guest, results[asked], dict(options), words, self.words.reports)
                 if self.words.reports and seed % TRIAL_EACH == 0:
                     texts += trial_wrongs(folder, seed)
-        if texts:
-            self.differing.keep(seed, files, words, texts)
+        return files, words, texts
 
     def make(self):
         """Makes all trials; the status."""
-        begin = time.monotonic()
         if not flows.networkx:
             print("flows are not compared with those of networkx, which is not there")
-        for seed in seeds_of(self.words):
-            self.try_seed(seed)
-        for table, counts in self.counts.items():
+        return super().make()
+
+    def show(self):
+        """Prints what the trials had."""
+        for table, runs in self.runs.items():
             print(f"by table {table}:")
-            counts.show()
+            runs.show()
         for narrowing in self.narrowing.values():
             narrowing.show()
-        print(f"{1000 * (time.monotonic() - begin) / max(self.words.count, 1):.0f} milliseconds for each trial")
-        return self.differing.show(self.words.count)
-
-
-def main():
-    """Reads the words of the command."""
-    parser = parser_of(__doc__)
-    for flag in ("--rules", "--cut", "--reports"):
-        parser.add_argument(flag, action="store_true")
-    parser.add_argument("--table", type=int, default=0, metavar="N")
-    return Comparison(parser.parse_args()).make()
+        taken = 1000 * (time.monotonic() - self.begin) / max(self.words.count, 1)
+        print(f"{taken:.0f} milliseconds for each trial")
 
 
 if __name__ == "__main__":
-    sys.exit(main())
+    sys.exit(Measures.main(__doc__))

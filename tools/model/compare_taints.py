@@ -9,13 +9,11 @@ with the same bits and output.
 
 Prints how many secrets had each finding and reason and how many let bits cross at each slot, and last how many trials
 agree and differ. The files and words of those that differ are kept in a folder that is named; then the status is 1."""
-import collections
 import random
 import sys
-import tempfile
 
 from answers import findings_of, read_words
-from comparing import Differing, Folder, family, parser_of, seeds_of, show_counts, show_slots
+from comparing import Comparison, Counts, difference, family, number_option
 from cuts import places_of, point_order, read_cut, read_regions, slot_width
 from measures import Measured, Refused
 from taints import taint_answer
@@ -104,16 +102,17 @@ def reason(finding):
     return f"unclear {words[0]} {words[1] if words[0] == 'guest' else words[3] if words[0] == 'left' else ''}".rstrip()
 
 
-class Counts:
+class Findings(Counts):
     """What the trials had."""
 
-    def __init__(self):
-        self.reasons, self.slots, self.others = (collections.Counter() for _ in range(3))
+    def slot_words(self, slot):
+        """What is said of a slot."""
+        return f"clean with bits at {slot}"
 
     def add(self, found, judgements, rules, regions):
         """Counts the findings of a trial."""
         for finding, judged in zip(found, judgements):
-            self.reasons[reason(finding)] += 1
+            self.kinds[reason(finding)] += 1
             self.slots.update({family(slot) for slot in finding.slots})
             self.others["secrets"] += 1
             self.others["accepted and not clean"] += judged.word == "accepted" and finding.word == "unclear"
@@ -123,12 +122,6 @@ class Counts:
                 self.others["clean with regions"] += bool(regions)
                 self.others["clean past a skipped region"] += "skip" in judged.kinds
                 self.others["clean past the leave of a region"] += "leave" in judged.kinds
-
-    def show(self):
-        """Prints the counts."""
-        show_counts(self.reasons)
-        show_slots(self.slots, lambda slot: f"clean with bits at {slot}")
-        show_counts(self.others)
 
 
 def model_wrongs(found, judgements):
@@ -140,45 +133,30 @@ def model_wrongs(found, judgements):
 
 def program_wrongs(folder, found, budget, words, rules):
     """What is wrong with the answers of the program."""
-    expected, given = taint_answer(found, budget), folder.run("taint", *words, *rules)
-    if given != expected:
-        yield f"taint: {given} for {expected}"
+    yield from difference("taint", folder.run("taint", *words, *rules), taint_answer(found, budget))
     lines = folder.run("check", *words)[1].split("\n")
     for number, finding in enumerate(found, 1):
         if finding.word == "clean" and f"accepted {number} {finding.text}" not in lines:
             yield f"check of clean secret {number}: {lines}"
 
 
-def trial_wrongs(seed, executable, counts, table=0):
-    """The files and words of a trial, and what is wrong with it."""
-    files, words, rules = taint_trial(seed, table)
-    found, budget = findings(files, words, rules)
-    judgements = Command(files, words).judgements()
-    counts.add(found, judgements, int(rules[-1][-1]) if rules else 1, "regions" in files)
-    wrongs = list(model_wrongs(found, judgements))
-    if executable:
-        with tempfile.TemporaryDirectory() as path:
-            wrongs += program_wrongs(Folder(executable, path, files), found, budget, words, rules)
-    return files, ["taint", *words, *rules], wrongs
+class Taints(Comparison):
+    """The comparison of `taint`."""
 
+    name, options, counted = "taints", {"--table": number_option(0)}, Findings
 
-def compare(words):
-    """Compares the trials; the status."""
-    counts, differing = Counts(), Differing("taints")
-    for seed in seeds_of(words):
-        files, command, wrongs = trial_wrongs(seed, words.executable, counts, words.table)
-        if wrongs:
-            differing.keep(seed, files, command, wrongs)
-    counts.show()
-    return differing.show(words.count)
-
-
-def main():
-    """Reads the words of the command."""
-    parser = parser_of(__doc__)
-    parser.add_argument("--table", type=int, default=0, metavar="N")
-    return compare(parser.parse_args())
+    def try_trial(self, seed):
+        """Makes one trial."""
+        files, words, rules = taint_trial(seed, self.words.table)
+        found, budget = findings(files, words, rules)
+        judgements = Command(files, words).judgements()
+        self.counts.add(found, judgements, int(rules[-1][-1]) if rules else 1, "regions" in files)
+        wrongs = list(model_wrongs(found, judgements))
+        if self.words.executable:
+            with self.folder(files) as folder:
+                wrongs += program_wrongs(folder, found, budget, words, rules)
+        return files, ["taint", *words, *rules], wrongs
 
 
 if __name__ == "__main__":
-    sys.exit(main())
+    sys.exit(Taints.main(__doc__))

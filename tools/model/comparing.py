@@ -1,6 +1,8 @@
-"""What comparisons of random trials share: their words, the folder in which a program runs, what is counted and printed,
-and the trials that differ."""
+"""The driver of the comparisons of random trials: their words, the folder in which a program runs, what is counted and
+printed, the trials that differ, and the status."""
 import argparse
+import collections
+import contextlib
 import json
 import os
 import pathlib
@@ -10,6 +12,12 @@ import tempfile
 from cuts import slot_order
 
 SECONDS = 300
+FLAG = {"action": "store_true"}
+
+
+def number_option(usual):
+    """An option that is a number, with the usual one, for argparse."""
+    return {"type": int, "default": usual, "metavar": "N"}
 
 
 def executable(name):
@@ -19,25 +27,15 @@ def executable(name):
     return pathlib.Path(name).resolve()
 
 
-def parser_of(text, wants_program=False):
-    """The parser of a comparison with this text for its help: a program, if need be, and the seeds of the trials."""
-    parser = argparse.ArgumentParser(description=text, formatter_class=argparse.RawDescriptionHelpFormatter)
-    parser.add_argument("executable", type=executable, nargs=None if wants_program else "?")
-    parser.add_argument("--first", type=int, default=1, metavar="SEED")
-    parser.add_argument("--count", type=int, default=400, metavar="N")
-    return parser
-
-
-def seeds_of(words):
-    """The seeds that the words name."""
-    return range(words.first, words.first + words.count)
-
-
 class Folder:
     """A trial's files in a folder, in which the program runs."""
 
     def __init__(self, executable, path, files):
         self.executable, self.path = executable, pathlib.Path(path)
+        self.write(files)
+
+    def write(self, files):
+        """Writes files."""
         for name, data in files.items():
             (self.path / name).write_bytes(data)
 
@@ -48,6 +46,11 @@ class Folder:
         except subprocess.TimeoutExpired:
             return None, f"no answer within {SECONDS} seconds"
         return done.returncode, done.stdout.decode(errors="replace")
+
+
+def difference(name, given, expected):
+    """What is wrong with an answer: nothing, or one text."""
+    return [f"{name}: {given} for {expected}"] if given != expected else []
 
 
 def family(slot):
@@ -61,35 +64,88 @@ def show_counts(counts):
         print(f"{counts[name]:8} {name}")
 
 
-def show_slots(slots, words):
-    """Prints what was counted of slots, with words that a function says of each."""
-    for slot in sorted(slots, key=lambda slot: slot_order(slot.replace("N", "0"))):
-        print(f"{slots[slot]:8} {words(slot)}")
+class Counts:
+    """What trials had: of which kind they were, at which slots bits were, and what else."""
+
+    def __init__(self):
+        self.kinds, self.slots, self.others = (collections.Counter() for _ in range(3))
+
+    def slot_words(self, slot):
+        """What is said of a slot behind its number."""
+        return f"with bits at {slot}"
+
+    def show(self):
+        """Prints the counts."""
+        show_counts(self.kinds)
+        for slot in sorted(self.slots, key=lambda slot: slot_order(slot.replace("N", "0"))):
+            print(f"{self.slots[slot]:8} {self.slot_words(slot)}")
+        show_counts(self.others)
 
 
-class Differing:
-    """The trials that differ, each of which is kept in a folder with its files, its words and what is wrong."""
+class Comparison:
+    """A comparison of random trials. Each kind says what its trials are and what is wrong with one."""
 
-    def __init__(self, name):
-        self.name, self.count, self.folder = name, 0, None
+    name, wants_program, options, counted = "", False, {}, Counts
+    """The name of its folder, whether it has nothing to do without a program, its options, and what it counts."""
 
-    def keep(self, seed, files, words, texts, answers=()):
-        """Counts and keeps a trial, with answers by name."""
-        self.count += 1
-        self.folder = self.folder or pathlib.Path(tempfile.mkdtemp(prefix=f"flowcheck-{self.name}-"))
-        place = self.folder / str(seed)
+    def __init__(self, words):
+        self.words, self.counts, self.tried, self.differing, self.kept = words, self.counted(), 0, 0, None
+
+    def trials(self):
+        """The name of each trial, which is its seed, and what else is known of it."""
+        return ((seed,) for seed in range(self.words.first, self.words.first + self.words.count))
+
+    def try_trial(self, name, *known):
+        """Makes a trial: its files, its words, what is wrong with it, and perhaps answers by name."""
+        raise NotImplementedError
+
+    def show(self):
+        """Prints what the trials had."""
+        self.counts.show()
+
+    @contextlib.contextmanager
+    def folder(self, files):
+        """A folder with files, in which the program runs."""
+        with tempfile.TemporaryDirectory() as path:
+            yield Folder(self.words.executable, path, files)
+
+    def given(self, files, *words):
+        """The status and the text of the program on these words."""
+        with self.folder(files) as folder:
+            return folder.run(*words)
+
+    def keep(self, name, files, words, texts, answers=()):
+        """Counts a trial that differs, and keeps it in a folder with its files, its words and what is wrong."""
+        self.differing += 1
+        self.kept = self.kept or pathlib.Path(tempfile.mkdtemp(prefix=f"flowcheck-{self.name}-"))
+        place = self.kept / str(name)
         place.mkdir()
-        for name, data in files.items():
-            (place / name).write_bytes(data)
+        files = Folder(None, place, files)
         (place / "words.json").write_text(json.dumps(words))
         (place / "wrong.txt").write_text("\n".join(texts) + "\n")
-        for name, (status, text) in dict(answers).items():
-            (place / f"{name}.txt").write_text(f"status {status}\n{text}")
-        print(f"trial {seed} differs: {texts[0][:300]}", flush=True)
+        for judge, (status, text) in dict(answers).items():
+            (place / f"{judge}.txt").write_text(f"status {status}\n{text}")
+        print(f"trial {name} differs: {texts[0][:300]}", flush=True)
 
-    def show(self, trials):
-        """Prints how many of the trials agree and differ; the status, 1 where any differs."""
-        if self.folder:
-            print(f"the trials that differ are in {self.folder}")
-        print(f"{trials - self.count} agree, {self.count} differ")
-        return int(self.count > 0)
+    def make(self):
+        """Makes all trials, and prints how many agree and differ; the status, 1 where any differs."""
+        for name, *known in self.trials():
+            self.tried += 1
+            files, words, texts, *answers = self.try_trial(name, *known)
+            if texts:
+                self.keep(name, files, words, texts, *answers)
+        self.show()
+        if self.kept:
+            print(f"the trials that differ are in {self.kept}")
+        print(f"{self.tried - self.differing} agree, {self.differing} differ")
+        return int(self.differing > 0)
+
+    @classmethod
+    def main(cls, text):
+        """Reads the words of the command, whose help is a text, and makes the comparison; the status."""
+        parser = argparse.ArgumentParser(description=text, formatter_class=argparse.RawDescriptionHelpFormatter)
+        parser.add_argument("executable", type=executable, nargs=None if cls.wants_program else "?")
+        parser.add_argument("--first", type=int, default=1, metavar="SEED")
+        for name, form in ({"--count": number_option(400)} | cls.options).items():
+            parser.add_argument(name, **form)
+        return cls(parser.parse_args()).make()

@@ -53,6 +53,11 @@ def flow_wrongs(measured):
     answer = verify(measured.certificate().encode())
     if answer != (0, f"verified {measured.bits}\n"):
         yield f"certificate: {answer[1]}"
+    yield from second_wrongs(measured)
+
+
+def second_wrongs(measured):
+    """What is wrong with the flow and the side beside those of networkx, where Python has it."""
     solved = measured.solved
     if flows.networkx and flows.second_opinion(measured.graph) != (solved.value, solved.halves, solved.relays):
         yield "networkx has another flow or side"
