@@ -125,7 +125,8 @@ class BoundTrials(Comparison):
 
     name, counted = "bounds", Answers
     tables = {"type": table_numbers, "default": (1, 2, 3), "metavar": "N,.."}
-    options = {"--secrets": number_option(50), "--tables": tables, "--paths": number_option(0)} | dict.fromkeys(("--any-public", "--loops", "--random"), FLAG)
+    options = {"--secrets": number_option(50), "--tables": tables, "--paths": number_option(0)}
+    options |= dict.fromkeys(("--any-public", "--loops", "--random"), FLAG)
 
     def each_wrongs(self, bounds):
         """What is wrong where each path is walked."""

@@ -1,15 +1,5 @@
-#!/usr/bin/env python3
-"""wrong_bounds.py [--first SEED] [--count N]
-
-Makes N trials of `bound` (100 without the option) from this seed (1) on, a third as many with `--any-public`, those
-with cuts that lack a point, and those that were made by hand, with models that are wrong in one thing each. Prints for
-each in how many trials the answer is another than that of the right model, and in how many of them the secrets that
-compare_bounds.py tries refute it without the right model. Last it prints how many wrong models were told apart.
-Python 3 only."""
-import argparse
-import collections
+"""Models of `bound` that are wrong in one thing each."""
 import random
-from unittest.mock import patch
 
 import bounds
 import rules
@@ -37,7 +27,7 @@ right_load, right_store, right_transfer = TurnMasks.load, TurnMasks.store, TurnM
 
 def blind_to(slot):
     """A model that does not look at a slot that decides."""
-    return lambda: patch.object(bounds, "IMPLICIT", tuple(one for one in bounds.IMPLICIT if one != slot))
+    return {"IMPLICIT": tuple(one for one in bounds.IMPLICIT if one != slot)}
 
 
 def leave_without_keep(self, region):
@@ -121,8 +111,8 @@ def transfer_public(self, number, descriptor, address, count):
 
 
 def ruled(**wrong):
-    """A model with other rules in table 3, without bits where none is secret."""
-    return lambda: patch.dict(TABLE_3, {name: rules.if_secret(rule) for name, rule in wrong.items()})
+    """Other rules of table 3, without bits where none is secret."""
+    return {name: rules.if_secret(rule) for name, rule in wrong.items()}
 
 
 def least_of(rule):
@@ -141,8 +131,8 @@ def left_by_0(v1, m1, v2, m2):
 
 
 def part_without(part, less):
-    """A model that tells states apart by less."""
-    return lambda: patch.object(states, "PARTS", [less if one is part else one for one in states.PARTS])
+    """The parts by which states are told apart, of which one tells less."""
+    return {"PARTS": [less if one is part else one for one in states.PARTS]}
 
 
 def entry_without_registers(walk):
@@ -162,6 +152,11 @@ def meet_open(self, walk):
     return found
 
 
+def fits_with(**less):
+    """A state is met as if less were below it."""
+    return lambda walk, below: right_fits(walk, below._replace(**less))
+
+
 def add_unstopped(self, walk, below):
     """Paths that stop are not counted below a state."""
     right_add(self, walk, below._replace(stopped=0))
@@ -175,69 +170,62 @@ def call_kept(self, instruction):
 
 
 WRONG = [
-    *((f"{slot} is not looked at", blind_to(slot)) for slot in bounds.IMPLICIT),
-    ("kept registers keep the masks of the region", lambda: patch.object(TurnMasks, "leave", leave_without_keep)),
-    ("kept registers are clear behind a region", lambda: patch.object(TurnMasks, "leave", leave_clear)),
-    ("outputs of every region have all bits", lambda: patch.object(TurnMasks, "leave", leave_whole)),
-    ("outputs of a skipped region have their own masks", lambda: patch.object(TurnMasks, "skip", skip_with_own)),
-    ("what crosses is not cleared", lambda: patch.object(Walk, "pass_visit", visit_uncleared)),
-    ("bits that may not differ do not count", lambda: patch.object(Walk, "pass_visit", visit_counting)),
-    ("the first choice is always 0", lambda: patch.object(Walk, "choose", choose_first)),
-    ("the highest bit is chosen first", lambda: patch.object(bounds, "places_of", lambda mask: places_of(mask)[::-1])),
-    ("one path alone is walked", lambda: patch.object(bounds, "behind", lambda choices: None)),
-    ("a load has the mask of one byte", lambda: patch.dict(bounds.FORMS, {"load": load_one})),
-    ("a store changes the mask of one byte", lambda: patch.dict(bounds.FORMS, {"store": store_one})),
-    ("operands go on with the masks of their registers", lambda: patch.object(TurnMasks, "use", use_uncleared)),
-    ("a public read leaves masks", lambda: patch.object(TurnMasks, "transfer", transfer_public)),
-    ("the answer of a call has a mask", lambda: patch.dict(bounds.FORMS, {"call": call_kept})),
-    ("code is not looked at", lambda: patch.object(TurnMasks, "look_at_code", lambda self: None)),
-    ("bases are not looked at", lambda: patch.object(TurnMasks, "look_at_bases", lambda self, region: None)),
-    ("free bits are not counted", lambda: patch.object(bounds, "free_bits", lambda pattern: 0)),
-    ("states are told apart without masks", part_without(states.masks_part, lambda walk: None)),
-    ("states are told apart without visits", part_without(states.visits_part, lambda walk: None)),
-    ("states are told apart without what was written", part_without(states.shown_part, lambda walk: None)),
-    ("states are told apart without the entry", part_without(states.entry_part, lambda walk: None)),
-    ("states are told apart without the entry's registers", part_without(states.entry_part, entry_without_registers)),
-    ("an open state is met", lambda: patch.object(Bounds, "meet", meet_open)),
-    ("a state below which paths end by the limit of turns is met", lambda: patch.object(
-        states, "is_late", lambda walk: False)),
-    ("a state is met with fewer turns left", lambda: patch.object(
-        bounds, "fits", lambda walk, below: right_fits(walk, below._replace(turns=0)))),
-    ("bits below a state are not added", lambda: patch.object(
-        bounds, "fits", lambda walk, below: right_fits(walk, below._replace(bits=0)))),
-    ("stops below a state are not counted", lambda: patch.object(Place, "add", add_unstopped)),
-    ("a public byte that may be any is clean", lambda: patch.object(bounds, "PUBLIC_MASK", 0)),
-    ("the public input is walked as it is given", lambda: patch.object(
-        Task, "walked_public", lambda task: task.public)),
-    ("quotients take the least for the greatest", ruled(divu=least_of(rules.spanned_quotient))),
-    ("remainders take the least for the greatest", ruled(remu=least_of(rules.spanned_remainder))),
-    ("high halves take the least for the greatest", ruled(mulhu=least_of(rules.spanned_high))),
-    ("shifts take the least for the greatest", ruled(srl=least_of(TABLE_3["srl"]))),
-    ("a divisor of a quotient may be 0", ruled(divu=divided_by_0)),
-    ("a divisor of a remainder may be 0", ruled(remu=left_by_0)),
-    ("bit 31 of a quotient's operands may differ", ruled(div=rules.spanned_quotient)),
-    ("bit 31 of a remainder's operands may differ", ruled(rem=rules.spanned_remainder)),
-    ("bit 31 of a product's operands may differ", ruled(mulh=rules.spanned_high)),
-    ("bit 31 of a product's first operand may differ", ruled(mulhsu=rules.spanned_high)),
-    ("a span lacks its lowest bits", lambda: patch.object(rules, "span", lambda first, second: first ^ second)),
-    ("a product of more than 32 bits has a span", ruled(mul=lambda v1, m1, v2, m2: rules.narrow_multiply(
+    *((f"{slot} is not looked at", bounds, blind_to(slot)) for slot in bounds.IMPLICIT),
+    ("kept registers keep the masks of the region", TurnMasks, {"leave": leave_without_keep}),
+    ("kept registers are clear behind a region", TurnMasks, {"leave": leave_clear}),
+    ("outputs of every region have all bits", TurnMasks, {"leave": leave_whole}),
+    ("outputs of a skipped region have their own masks", TurnMasks, {"skip": skip_with_own}),
+    ("what crosses is not cleared", Walk, {"pass_visit": visit_uncleared}),
+    ("bits that may not differ do not count", Walk, {"pass_visit": visit_counting}),
+    ("the first choice is always 0", Walk, {"choose": choose_first}),
+    ("the highest bit is chosen first", bounds, {"places_of": lambda mask: places_of(mask)[::-1]}),
+    ("one path alone is walked", bounds, {"behind": lambda choices: None}),
+    ("a load has the mask of one byte", bounds.FORMS, {"load": load_one}),
+    ("a store changes the mask of one byte", bounds.FORMS, {"store": store_one}),
+    ("operands go on with the masks of their registers", TurnMasks, {"use": use_uncleared}),
+    ("a public read leaves masks", TurnMasks, {"transfer": transfer_public}),
+    ("the answer of a call has a mask", bounds.FORMS, {"call": call_kept}),
+    ("code is not looked at", TurnMasks, {"look_at_code": lambda self: None}),
+    ("bases are not looked at", TurnMasks, {"look_at_bases": lambda self, region: None}),
+    ("free bits are not counted", bounds, {"free_bits": lambda pattern: 0}),
+    ("states are told apart without masks", states, part_without(states.masks_part, lambda walk: None)),
+    ("states are told apart without visits", states, part_without(states.visits_part, lambda walk: None)),
+    ("states are told apart without what was written", states, part_without(states.shown_part, lambda walk: None)),
+    ("states are told apart without the entry", states, part_without(states.entry_part, lambda walk: None)),
+    ("states are told apart without the entry's registers", states, part_without(
+        states.entry_part, entry_without_registers)),
+    ("an open state is met", Bounds, {"meet": meet_open}),
+    ("a state below which paths end by the limit of turns is met", states, {"is_late": lambda walk: False}),
+    ("a state is met with fewer turns left", bounds, {"fits": fits_with(turns=0)}),
+    ("bits below a state are not added", bounds, {"fits": fits_with(bits=0)}),
+    ("stops below a state are not counted", Place, {"add": add_unstopped}),
+    ("a public byte that may be any is clean", bounds, {"PUBLIC_MASK": 0}),
+    ("the public input is walked as it is given", Task, {"walked_public": lambda task: task.public}),
+    ("quotients take the least for the greatest", TABLE_3, ruled(divu=least_of(rules.spanned_quotient))),
+    ("remainders take the least for the greatest", TABLE_3, ruled(remu=least_of(rules.spanned_remainder))),
+    ("high halves take the least for the greatest", TABLE_3, ruled(mulhu=least_of(rules.spanned_high))),
+    ("shifts take the least for the greatest", TABLE_3, ruled(srl=least_of(TABLE_3["srl"]))),
+    ("a divisor of a quotient may be 0", TABLE_3, ruled(divu=divided_by_0)),
+    ("a divisor of a remainder may be 0", TABLE_3, ruled(remu=left_by_0)),
+    ("bit 31 of a quotient's operands may differ", TABLE_3, ruled(div=rules.spanned_quotient)),
+    ("bit 31 of a remainder's operands may differ", TABLE_3, ruled(rem=rules.spanned_remainder)),
+    ("bit 31 of a product's operands may differ", TABLE_3, ruled(mulh=rules.spanned_high)),
+    ("bit 31 of a product's first operand may differ", TABLE_3, ruled(mulhsu=rules.spanned_high)),
+    ("a span lacks its lowest bits", rules, {"span": lambda first, second: first ^ second}),
+    ("a product of more than 32 bits has a span", TABLE_3, ruled(mul=lambda v1, m1, v2, m2: rules.narrow_multiply(
         v1, m1, v2, m2) & rules.span((v1 & ~m1) * (v2 & ~m2), (v1 | m1) * (v2 | m2)))),
-    ("a walk too few is made", lambda: patch.object(bounds, "has_enough", lambda walks, most: walks + 1 >= most)),
+    ("a walk too few is made", bounds, {"has_enough": lambda walks, most: walks + 1 >= most}),
 ]
 
 
 class Trial:
-    """A trial: its task, the answer of the right model, and public inputs and secrets with their runs."""
+    """A trial: its task, and public inputs and secrets with their runs."""
 
     def __init__(self, name, files, words):
         self.name, self.task = name, task_of(files, words)
-        self.answer, dice = self.answered().text(True), random.Random(f"secrets {name}")
+        dice = random.Random(f"secrets {name}")
         self.pairs = [(public, secret) for public, some in tried_pairs(dice, self.task, SECRETS) for secret in some]
         self.runs = None
-
-    def answered(self):
-        """The answer of the model as it is."""
-        return Bounds(self.task)
 
     def run(self, pair):
         """The run of a public input and a secret, and whether it is accepted."""
@@ -269,44 +257,22 @@ def trials_of(seed, wanted=Wanted()):
     """The trial of a seed, and where that is bounded and has points, the one without one of them."""
     files, words = bound_trial(seed, wanted)
     trial = Trial(seed, files, words)
-    without = None if trial.answered().unclear else lacking(seed, files, trial.task)
+    without = None if Bounds(trial.task).unclear else lacking(seed, files, trial.task)
     return [trial] + ([Trial(seed, without, words)] if without else [])
 
 
-def tried(trials):
-    """In how many trials the model as it is answers otherwise, and in how many secrets refute it."""
-    counts = collections.Counter()
-    for trial in trials:
-        try:
-            found = trial.answered()
-        except (AssertionError, KeyError, IndexError, ValueError, TypeError):
-            counts["other"] += 1
-            continue
-        counts["other"] += found.text(True) != trial.answer
-        counts["refuted"] += trial.is_refuted(found)
-    return counts
-
-
-def main():
-    """Reads the words of the command and tries every wrong model."""
-    parser = argparse.ArgumentParser(description=__doc__, formatter_class=argparse.RawDescriptionHelpFormatter)
-    parser.add_argument("--first", type=int, default=1, metavar="SEED")
-    parser.add_argument("--count", type=int, default=100, metavar="N")
-    words, missed, refuted = parser.parse_args(), 0, 0
+def trials(seeds):
+    """The trials of some seeds, a third as many of any public input, and those that were made by hand."""
     by_hand = kept_trials() + met_trials() + public_trials() + range_trials()
-    trials = [Trial(name, files, line) for name, files, line, _ in by_hand]
-    for seed in range(words.first, words.first + words.count):
-        trials += trials_of(seed)
-    for seed in range(words.first, words.first + words.count // 3):
-        trials += trials_of(seed, Wanted(is_any_public=True))
-    assert not tried(trials)["refuted"]
-    for name, change in WRONG:
-        with change():
-            counts = tried(trials)
-        missed, refuted = missed + (not counts["other"]), refuted + bool(counts["refuted"])
-        print(f"{counts['other']:6} of {len(trials)}, {counts['refuted']:3} refuted  {name}", flush=True)
-    print(f"{len(WRONG) - missed} wrong models told apart, {missed} not; {refuted} refuted by secrets")
+    made = [Trial(name, files, line) for name, files, line, _ in by_hand]
+    for seed in seeds:
+        made += trials_of(seed)
+    for seed in seeds[: len(seeds) // 3]:
+        made += trials_of(seed, Wanted(is_any_public=True))
+    return made
 
 
-if __name__ == "__main__":
-    main()
+def answer(trial):
+    """The answer to a trial, and whether its secrets refute it."""
+    found = Bounds(trial.task)
+    return found.text(True), trial.is_refuted(found)

@@ -1,13 +1,4 @@
-#!/usr/bin/env python3
-"""wrong_measures.py [--first SEED] [--count N]
-
-Says how sharp the random trials of `measure` are: for each of a list of wrong models, each wrong in one thing, prints
-in how many of N trials (200 without the option) from this seed (1) on its answers to `measure`, by both tables, with
-and without the fold, or to `graph` are others than the model's, and last how many are told apart. No program is run:
-one that is wrong in the same thing would differ in as many trials. Python 3 only."""
-import argparse
-from unittest.mock import patch
-
+"""Models of `measure` and `graph` that are wrong in one thing each."""
 import cuts
 import flows
 import labels
@@ -151,25 +142,9 @@ def folded_once(runs, rest):
     return runs, rest
 
 
-def rule(name, function, table=TABLE_1):
-    """A rule of a table that is another; table 2 shares what it does not replace."""
-    is_shared = table is TABLE_1 and TABLE_2[name] is TABLE_1[name]
-    return patch.dict(TABLE_2 if is_shared or table is TABLE_2 else TABLE_1, {name: function})
-
-
-def method(name, wrong):
-    """A method of the labels that is another."""
-    return patch.object(Labels, name, wrong)
-
-
-def form(name, wrong):
-    """The labels of a form of instructions that are others."""
-    return patch.dict(LABELLED, {name: wrong})
-
-
-def passing(wrong):
-    """Passings that are others."""
-    return patch.object(Passings, "add", wrong)
+def table_of(name):
+    """The table whose rule of this name is replaced: table 2 shares what it does not replace."""
+    return TABLE_2 if TABLE_2[name] is TABLE_1[name] else TABLE_1
 
 
 def union(v1, m1, v2, m2):
@@ -183,81 +158,66 @@ def moved(v1, m1, v2, m2):
 
 
 WRONG = [
-    ("decisions are not betrayed", lambda: passing(add_without(lambda point, kind: point[2] == "de"))),
-    ("addresses are not betrayed", lambda: passing(add_without(lambda point, kind: point[2] == "ad"))),
-    ("numbers of calls are not betrayed", lambda: passing(add_without(lambda point, kind: point[2] == "nr"))),
-    ("arguments of calls are not betrayed", lambda: passing(add_without(lambda point, kind: point[2][0] == "a"
-                                                                        and point[2] != "ad"))),
-    ("outputs of regions have no link from them", lambda: passing(add_without(lambda point, kind: kind == OUT))),
-    ("regions betray to the sink", lambda: passing(add_to_sink)),
-    ("only the first label is linked", lambda: passing(add_first_link)),
-    ("visits of no secret bit are not counted", lambda: passing(add_nothing_clean)),
-    ("capacities are those of the last visit", lambda: patch.object(Passings, "capacity", last_capacity)),
-    ("outputs of regions have their own masks", lambda: method("put_out", out_as_it_is)),
-    ("kept registers keep the labels of the region", lambda: method("leave", leave_without_keep)),
-    ("stored bytes have the lowest mask", lambda: form("store", store_lowest)),
-    ("the address of a store has no rule", lambda: form("store", store_with_address_first)),
-    ("answers of calls have labels", lambda: method("call", call_with_label)),
-    ("the status has all bits", lambda: method("betray", betray_whole)),
-    ("x0 has a label", lambda: method("set_register", set_any_register)),
-    ("LUI, AUIPC and JAL leave the label", lambda: patch.dict(LABELLED, {"upper": Labels.fence, "jump": Labels.fence})),
-    ("loads extend with zeros", lambda: patch.object(labels, "loaded_mask", lambda _, masks: sum(
-        mask << 8 * index for index, mask in enumerate(masks)))),
-    ("only the first byte of code is looked at", lambda: patch.object(MeasuredRun, "look_at_code", look_at_first_byte)),
-    ("bases are looked at behind ranges", lambda: patch.object(MeasuredRun, "look_at_bases", look_at_bases_late)),
-    ("the rest is the last mask", lambda: patch.object(Measured, "cut", cut_with_last)),
-    ("the side is the greatest", lambda: patch.object(flows.Network, "solve", greatest_side)),
-    ("patterns need not repeat", lambda: patch.object(cuts, "folded", folded_once)),
-    ("ADD carries nothing", lambda: rule("add", union)),
-    ("SUB carries nothing", lambda: rule("sub", union)),
-    ("MUL carries nothing", lambda: rule("mul", union)),
-    ("AND knows no zeros", lambda: rule("and", union)),
-    ("OR knows no ones", lambda: rule("or", union)),
-    ("shifts by a secret number move the mask", lambda: rule("sll", moved)),
-    ("SRA moves zeros in", lambda: rule("sra", TABLE_1["srl"])),
-    ("comparisons have all bits", lambda: rule("sltu", rules.everything)),
-    ("quotients are narrow", lambda: patch.dict(TABLE_1, dict.fromkeys(("div", "divu"), union))),
-    ("table 2 adds by table 1", lambda: rule("add", TABLE_1["add"], TABLE_2)),
-    ("table 2 compares by table 1", lambda: rule("equal", TABLE_1["equal"], TABLE_2)),
-    ("table 2 compares with a sign as without", lambda: rule("slt", TABLE_2["sltu"], TABLE_2)),
-    ("table 2 takes the greatest difference wrongly", lambda: rule("sub", TABLE_2["add"], TABLE_2)),
-    ("BLT is of the class of BLTU", lambda: patch.dict(CLASSES, {"blt": "sltu", "bge": "sltu", "slt": "sltu"})),
+    ("decisions are not betrayed", Passings, {"add": add_without(lambda point, kind: point[2] == "de")}),
+    ("addresses are not betrayed", Passings, {"add": add_without(lambda point, kind: point[2] == "ad")}),
+    ("numbers of calls are not betrayed", Passings, {"add": add_without(lambda point, kind: point[2] == "nr")}),
+    ("arguments of calls are not betrayed", Passings, {"add": add_without(
+        lambda point, kind: point[2][0] == "a" and point[2] != "ad")}),
+    ("outputs of regions have no link from them", Passings, {"add": add_without(lambda point, kind: kind == OUT)}),
+    ("regions betray to the sink", Passings, {"add": add_to_sink}),
+    ("only the first label is linked", Passings, {"add": add_first_link}),
+    ("visits of no secret bit are not counted", Passings, {"add": add_nothing_clean}),
+    ("capacities are those of the last visit", Passings, {"capacity": last_capacity}),
+    ("outputs of regions have their own masks", Labels, {"put_out": out_as_it_is}),
+    ("kept registers keep the labels of the region", Labels, {"leave": leave_without_keep}),
+    ("stored bytes have the lowest mask", LABELLED, {"store": store_lowest}),
+    ("the address of a store has no rule", LABELLED, {"store": store_with_address_first}),
+    ("answers of calls have labels", Labels, {"call": call_with_label}),
+    ("the status has all bits", Labels, {"betray": betray_whole}),
+    ("x0 has a label", Labels, {"set_register": set_any_register}),
+    ("LUI, AUIPC and JAL leave the label", LABELLED, {"upper": Labels.fence, "jump": Labels.fence}),
+    ("loads extend with zeros", labels, {"loaded_mask": lambda _, masks: sum(
+        mask << 8 * index for index, mask in enumerate(masks))}),
+    ("only the first byte of code is looked at", MeasuredRun, {"look_at_code": look_at_first_byte}),
+    ("bases are looked at behind ranges", MeasuredRun, {"look_at_bases": look_at_bases_late}),
+    ("the rest is the last mask", Measured, {"cut": cut_with_last}),
+    ("the side is the greatest", flows.Network, {"solve": greatest_side}),
+    ("patterns need not repeat", cuts, {"folded": folded_once}),
+    ("ADD carries nothing", table_of("add"), {"add": union}),
+    ("SUB carries nothing", table_of("sub"), {"sub": union}),
+    ("MUL carries nothing", table_of("mul"), {"mul": union}),
+    ("AND knows no zeros", table_of("and"), {"and": union}),
+    ("OR knows no ones", table_of("or"), {"or": union}),
+    ("shifts by a secret number move the mask", table_of("sll"), {"sll": moved}),
+    ("SRA moves zeros in", table_of("sra"), {"sra": TABLE_1["srl"]}),
+    ("comparisons have all bits", table_of("sltu"), {"sltu": rules.everything}),
+    ("quotients are narrow", TABLE_1, {"div": union, "divu": union}),
+    ("table 2 adds by table 1", TABLE_2, {"add": TABLE_1["add"]}),
+    ("table 2 compares by table 1", TABLE_2, {"equal": TABLE_1["equal"]}),
+    ("table 2 compares with a sign as without", TABLE_2, {"slt": TABLE_2["sltu"]}),
+    ("table 2 takes the greatest difference wrongly", TABLE_2, {"sub": TABLE_2["add"]}),
+    ("BLT is of the class of BLTU", CLASSES, {"blt": "sltu", "bge": "sltu", "slt": "sltu"}),
 ]
 
 
-def answers_of(files, options):
-    """What is determined of the answers to a trial."""
-    result = []
-    for table in (1, 2):
-        try:
-            given = dict(options) | {"--rules": table}
-            given["--turns"] = min(int(given.get("--turns", MOST_TURNS)), MOST_TURNS)
-            measured = measured_of(files, ["program", "public", "secret"], given)
-            cut = measured.cut()
-            result += [cut.text(), cut.folded().text(), without_flows(measured.certificate())]
-        except Ended as ended:
-            result.append(ended.args)
-        except (KeyError, IndexError, ValueError, TypeError) as failure:
-            result.append(repr(failure))
-    return result
+def determined(files, options):
+    """What is determined of the answers to a trial by a table."""
+    try:
+        measured = measured_of(files, ["program", "public", "secret"], options)
+    except Ended as ended:
+        return [ended.args]
+    cut = measured.cut()
+    return [cut.text(), cut.folded().text(), without_flows(measured.certificate())]
 
 
-def main():
-    """Reads the words of the command and tries every wrong model."""
-    parser = argparse.ArgumentParser(description=__doc__, formatter_class=argparse.RawDescriptionHelpFormatter)
-    parser.add_argument("--first", type=int, default=1, metavar="SEED")
-    parser.add_argument("--count", type=int, default=200, metavar="N")
-    words = parser.parse_args()
-    trials = [measure_trial(seed) for seed in range(words.first, words.first + words.count)]
-    trials = [trial for trial in trials if len(trial[0]["program"]) < MOST_FILE]
-    right, missed = [answers_of(*trial) for trial in trials], 0
-    for name, change in WRONG:
-        with change():
-            found = sum(answers_of(*trial) != expected for trial, expected in zip(trials, right))
-        missed += found == 0
-        print(f"{found:6} of {len(trials)}  {name}", flush=True)
-    print(f"{len(WRONG) - missed} wrong models told apart, {missed} not")
+def trials(seeds):
+    """The trials of some seeds whose programs are not large."""
+    made = map(measure_trial, seeds)
+    return [trial for trial in made if len(trial[0]["program"]) < MOST_FILE]
 
 
-if __name__ == "__main__":
-    main()
+def answer(trial):
+    """What is determined of the answers by tables 1 and 2."""
+    files, options = trial
+    given = dict(options) | {"--turns": min(int(dict(options).get("--turns", MOST_TURNS)), MOST_TURNS)}
+    return [part for table in (1, 2) for part in determined(files, given | {"--rules": table})]

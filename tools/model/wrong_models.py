@@ -1,274 +1,84 @@
 #!/usr/bin/env python3
-"""wrong_models.py [--first SEED] [--count N]
+"""wrong_models.py [COMMAND..] [--first SEED] [--count N]
 
-Says how sharp the random trials are: for each of a list of wrong models, each wrong in one thing, prints in how many of
-N trials (400 without the option) from this seed (1) on its answer is another than the model's, and last how many are
-told apart. No program is run: one that is wrong in the same thing would differ in as many trials. Python 3 only."""
+Says how sharp the random trials are: of each command, or of those that are named, makes N trials (as many as its table
+says without the option) from this seed (1) on with models that are wrong in one thing each. Prints for each in how many
+trials its answer is another than that of the right model, and last how many were told apart. Of `bound` it counts too
+in how many trials the secrets that compare_bounds.py tries refute the answer without the right model. The commands are
+check, measure (also `graph`, by tables 1 and 2, with and without the fold), taint, learn, measure-all and bound. No
+program is run: one that is wrong in the same thing would differ in as many trials. Python 3 only."""
 import argparse
 from unittest.mock import patch
 
-import cuts
-import guest
-import verdicts
-from guest import FORMS, Guest, GuestFault, RealGuest, ReplayGuest
-from instructions import ALL, OPERATIONS, WIDTHS, compute, remainder, sign_extended, signed
-from trials import random_trial
+import wrong_bounds
+import wrong_checks
+import wrong_measures
+import wrong_others
 
-MOST_TURNS = 5000
-# what is replaced, for the wrong methods that go on with it
-right_guest, right_read, right_skip, right_settle = Guest.__init__, Guest.read, Guest.skip, RealGuest.settle_kept
-right_run, right_mask_at = verdicts.RealRun.__init__, cuts.Cut.mask_at
-
-
-def store_value_first(self, instruction):
-    """A store whose value passes before its address register."""
-    second = yield self.visit("u2", self.registers[instruction.second])
-    first = yield self.visit("u1", self.registers[instruction.first])
-    address = yield self.visit("ad", (first + instruction.immediate) & ALL)
-    return self.write_word(address, second, WIDTHS[instruction.name])
+KINDS = {
+    "check": (400, wrong_checks.WRONG, wrong_checks.trials, wrong_checks.answer),
+    "measure": (200, wrong_measures.WRONG, wrong_measures.trials, wrong_measures.answer),
+    "taint": (300, wrong_others.TAINT, wrong_others.taint_trials, wrong_others.answer),
+    "learn": (300, wrong_others.LEARN, wrong_others.learn_trials, wrong_others.answer),
+    "measure-all": (300, wrong_others.MANY, wrong_others.many_trials, wrong_others.answer),
+    "bound": (100, wrong_bounds.WRONG, wrong_bounds.trials, wrong_bounds.answer),
+}
+"""How many trials are usual; the wrong models, each with a name, the table, class or module of which parts are others,
+and these; what makes the trials of some seeds; and the answer to one, with secrets also whether they refute it."""
+HAS_SECRETS = {"bound"}
+FAILURES = AssertionError, IndexError, KeyError, TypeError, ValueError
 
 
-def store_address_first(self, instruction):
-    """A store whose address passes before its value."""
-    first = yield self.visit("u1", self.registers[instruction.first])
-    address = yield self.visit("ad", (first + instruction.immediate) & ALL)
-    second = yield self.visit("u2", self.registers[instruction.second])
-    return self.write_word(address, second, WIDTHS[instruction.name])
+def changed(owner, parts):
+    """The model with other entries of a table, or with other attributes of a class or module."""
+    return patch.dict(owner, parts) if isinstance(owner, dict) else patch.multiple(owner, **parts)
 
 
-def jump_register_cleared_late(self, instruction):
-    """JALR whose target passes before its bit 0 is cleared."""
-    first = yield self.visit("u1", self.registers[instruction.first])
-    target = (yield self.visit("ad", (first + instruction.immediate) & ALL)) & ~1
-    self.aligned(target)
-    self.write_register(instruction.destination, self.following())
-    return target
+def answers(command, trials, answer):
+    """The answers of the model as it is, or what stops it, and whether secrets refute it."""
+    for trial in trials:
+        try:
+            given = answer(trial)
+            yield given if command in HAS_SECRETS else (given, False)
+        except FAILURES as failure:
+            yield repr(failure), False
 
 
-def jump_with_result(self, instruction):
-    """JAL that passes its result."""
-    yield self.visit("rs", self.following())
-    return (yield from Guest.jump(self, instruction))
+def try_command(command, first, count):
+    """Tries every wrong model of a command."""
+    usual, wrong, make_trials, answer = KINDS[command]
+    trials = make_trials(range(first, first + (usual if count is None else count)))
+    right = list(answers(command, trials, answer))
+    assert not any(is_refuted for _, is_refuted in right), "secrets refute the right model"
+    missed = refuted = 0
+    for name, owner, parts in wrong:
+        with changed(owner, parts):
+            given = list(answers(command, trials, answer))
+        others = sum(one != expected for (one, _), (expected, _) in zip(given, right))
+        against = sum(is_refuted for _, is_refuted in given)
+        missed, refuted = missed + (not others), refuted + bool(against)
+        told = f", {against:3} refuted" if command in HAS_SECRETS else ""
+        print(f"{others:6} of {len(trials)}{told}  {command}: {name}", flush=True)
+    told = f"; {refuted} refuted by secrets" if command in HAS_SECRETS else ""
+    print(f"{len(wrong) - missed} wrong models told apart, {missed} not{told}", flush=True)
 
 
-def upper_with_result(self, instruction):
-    """LUI and AUIPC that pass their result."""
-    base = self.pc if instruction.name == "auipc" else 0
-    result = yield self.visit("rs", (base + instruction.immediate) & ALL)
-    self.write_register(instruction.destination, result)
-    return self.following()
-
-
-def immediate_without_x0(self, instruction):
-    """Arithmetic with an immediate whose result does not pass where it is written to x0."""
-    first = yield self.visit("u1", self.registers[instruction.first])
-    result = compute(instruction.name, first, instruction.immediate & ALL)
-    if instruction.destination:
-        result = yield self.visit("rs", result)
-    self.write_register(instruction.destination, result)
-    return self.following()
-
-
-def immediate_patched_register(self, instruction):
-    """Arithmetic with an immediate that keeps in its first register what goes on."""
-    first = yield self.visit("u1", self.registers[instruction.first])
-    if instruction.first:
-        self.registers[instruction.first] = first
-    result = yield self.visit("rs", compute(instruction.name, first, instruction.immediate & ALL))
-    self.write_register(instruction.destination, result)
-    return self.following()
-
-
-def load_passed_bare(self, instruction):
-    """A load whose result passes before its sign is extended."""
-    first = yield self.visit("u1", self.registers[instruction.first])
-    address = yield self.visit("ad", (first + instruction.immediate) & ALL)
-    width = WIDTHS[instruction.name]
-    if not self.is_inside(address, width):
-        raise GuestFault(f"load-outside {guest.shown(self.pc)} address {guest.shown(address)}")
-    result = yield self.visit("rs", self.word(address, width))
-    if instruction.name in ("lb", "lh"):
-        result = sign_extended(result, 8 * width) & ALL
-    self.write_register(instruction.destination, result)
-    return self.following()
-
-
-def load_declared_early(self, instruction):
-    """A load that breaks its region by its register where it should be stopped by its address."""
-    if instruction.destination:
-        self.declare_register(instruction.destination)
-    return (yield from Guest.load(self, instruction))
-
-
-def visit_without_region(self, slot, value):
-    """Points inside a region have the number 0."""
-    return (0, self.pc, slot, value)
-
-
-def read_public_passed(self, descriptor, address, most):
-    """A read that passes the bytes of the public input too."""
-    if descriptor != guest.PUBLIC:
-        return (yield from right_read(self, descriptor, address, most))
-    data, begin = self.inputs[descriptor], self.consumed[descriptor]
-    count = min(most, len(data) - begin)
-    if count and not self.is_inside(address, count):
-        return guest.NO_ADDRESS
-    for index in range(count):
-        self.memory[address + index] = yield self.visit("in", data[begin + index])
-    self.consumed[descriptor] += count
-    return count
-
-
-def read_tested_by_most(self, descriptor, address, most):
-    """A read that wants room for all bytes that it may read, not for those that there are."""
-    if descriptor in self.inputs and self.consumed[descriptor] < len(self.inputs[descriptor]):
-        if most and not self.is_inside(address, most):
-            return guest.NO_ADDRESS
-    return (yield from right_read(self, descriptor, address, most))
-
-
-def skip_without_zeros(self):
-    """A skip that leaves its outputs as they are."""
-    region = self.by_enter[self.pc]
-    yield from self.pass_outputs(region, self.starts_of(region))
-    self.pc = region.leave
-
-
-def skip_with_kept(self):
-    """A skip that sets the kept registers to 0 too."""
-    for number in self.by_enter[self.pc].keep:
-        self.registers[number] = 0
-    yield from right_skip(self)
-
-
-def leave_with_new_starts(self):
-    """A leave that takes the starts of the ranges from the registers at the leave."""
-    region = self.entered
-    self.settle_kept(region)
-    self.entered = None
-    starts = [((self.registers[base] if base else 0) + offset) & ALL for base, offset, _ in region.ranges]
-    yield from self.pass_outputs(region, starts)
-
-
-def pass_ranges_first(self, region, starts):
-    """Output points of which the ranges come before the registers."""
-    for index, (_, _, length) in enumerate(region.ranges):
-        for address in range(starts[index], starts[index] + length):
-            self.memory[address] = yield (region.number, region.leave, f"r{index}", self.byte(address))
-    for number in region.outs:
-        self.registers[number] = yield (region.number, region.leave, f"x{number}", self.registers[number])
-
-
-def pass_and_forget(self, region, starts):
-    """Output points of which nothing goes on."""
-    for number in region.outs:
-        yield (region.number, region.leave, f"x{number}", self.registers[number])
-    for index, (_, _, length) in enumerate(region.ranges):
-        for address in range(starts[index], starts[index] + length):
-            yield (region.number, region.leave, f"r{index}", self.byte(address))
-
-
-def settle_from_above(self, region):
-    """The highest kept register that has changed is named."""
-    with patch.object(region, "keep", region.keep[::-1]):
-        right_settle(self, region)
-
-
-def mask_from_zero(self, point, visit):
-    """Visits are counted from 0."""
-    return right_mask_at(self, point, max(visit - 1, 1))
-
-
-def stack_elsewhere(self, *arguments):
-    """The stack pointer begins elsewhere."""
-    right_guest(self, *arguments)
-    self.registers[2] = self.end - 16
-
-
-def break_not_rounded(self, image, *arguments):
-    """The break begins at the highest end of a load."""
-    right_guest(self, image, *arguments)
-    self.first_break = self.current_break = image.top
-
-
-def one_turn_more(self, real_guest, limit):
-    """The limit is counted without the last turn."""
-    right_run(self, real_guest, limit + 1)
-
-
-def places_from_above(mask):
-    """Bits cross highest first."""
-    return [1 << index for index in reversed(range(mask.bit_length())) if mask >> index & 1]
-
-
-def form(name, wrong):
-    """A form of instructions that does something else."""
-    return patch.dict(FORMS, {name: wrong})
-
-
-def operation(name, wrong):
-    """An operation that computes something else."""
-    return patch.dict(OPERATIONS, {name: wrong})
-
-
-WRONG = [
-    ("a store passes its value first", lambda: form("store", store_value_first)),
-    ("a store passes its address before its value", lambda: form("store", store_address_first)),
-    ("a target passes before its bit 0 is cleared", lambda: form("jump_register", jump_register_cleared_late)),
-    ("JAL passes its result", lambda: form("jump", jump_with_result)),
-    ("LUI and AUIPC pass their result", lambda: form("upper", upper_with_result)),
-    ("a result for x0 does not pass", lambda: form("immediate", immediate_without_x0)),
-    ("what goes on stays in the operand", lambda: form("immediate", immediate_patched_register)),
-    ("a load passes before its sign is extended", lambda: form("load", load_passed_bare)),
-    ("a load breaks its region before its fault", lambda: form("load", load_declared_early)),
-    ("points inside regions have number 0", lambda: patch.object(Guest, "visit", visit_without_region)),
-    ("bytes of the public input pass", lambda: patch.object(Guest, "read", read_public_passed)),
-    ("a read wants room for what it may read", lambda: patch.object(Guest, "read", read_tested_by_most)),
-    ("a skip leaves outputs as they are", lambda: patch.object(Guest, "skip", skip_without_zeros)),
-    ("a skip sets kept registers to 0", lambda: patch.object(Guest, "skip", skip_with_kept)),
-    ("ranges are taken again at the leave", lambda: patch.object(Guest, "leave", leave_with_new_starts)),
-    ("ranges pass before registers", lambda: patch.object(Guest, "pass_outputs", pass_ranges_first)),
-    ("bits at outputs do not go on", lambda: patch.object(Guest, "pass_outputs", pass_and_forget)),
-    ("the highest kept register is named", lambda: patch.object(RealGuest, "settle_kept", settle_from_above)),
-    ("kept registers are not given back", lambda: patch.object(ReplayGuest, "settle_kept", lambda *_: None)),
-    ("visits are counted from 0", lambda: patch.object(cuts.Cut, "mask_at", mask_from_zero)),
-    ("masks are wider than their slots", lambda: patch.object(cuts, "slot_width", lambda _: ALL)),
-    ("bits cross highest first", lambda: patch.object(verdicts, "places_of", places_from_above)),
-    ("a call that there is not answers -1", lambda: patch.object(guest, "NO_CALL", -1)),
-    ("the stack begins elsewhere", lambda: patch.object(Guest, "__init__", stack_elsewhere)),
-    ("the break is not rounded", lambda: patch.object(Guest, "__init__", break_not_rounded)),
-    ("one turn more than the limit", lambda: patch.object(verdicts.RealRun, "__init__", one_turn_more)),
-    ("SRA fills with zeros", lambda: operation("sra", OPERATIONS["srl"])),
-    ("MULHSU is MULH", lambda: operation("mulhsu", OPERATIONS["mulh"])),
-    ("REM by 0 is 0", lambda: operation("rem", lambda one, other: remainder(one, other) if other else 0)),
-    ("DIV rounds down", lambda: operation("div", lambda one, other: signed(one) // signed(other) if other else ALL)),
-]
-
-
-def answer_of(command):
-    """The status and the text of a trial; None where a wrong model cannot go on."""
-    try:
-        return verdicts.answer(command.judgements(), command.budget)
-    except (IndexError, KeyError, ValueError):
-        return None
+def command_name(word):
+    """A command of which there are wrong models, for argparse."""
+    if word not in KINDS:
+        raise argparse.ArgumentTypeError(f"{word} is none of {', '.join(KINDS)}")
+    return word
 
 
 def main():
-    """Reads the words of the command and tries every wrong model."""
+    """Reads the words of the command and tries the wrong models."""
     parser = argparse.ArgumentParser(description=__doc__, formatter_class=argparse.RawDescriptionHelpFormatter)
+    parser.add_argument("commands", nargs="*", type=command_name, metavar="COMMAND")
     parser.add_argument("--first", type=int, default=1, metavar="SEED")
-    parser.add_argument("--count", type=int, default=400, metavar="N")
+    parser.add_argument("--count", type=int, metavar="N")
     words = parser.parse_args()
-    commands = [verdicts.Command(*random_trial(seed)) for seed in range(words.first, words.first + words.count)]
-    for command in commands:
-        command.limit = min(command.limit, MOST_TURNS)
-    right, missed = [answer_of(command) for command in commands], 0
-    for name, change in WRONG:
-        with change():
-            found = sum(answer_of(command) != expected for command, expected in zip(commands, right))
-        missed += found == 0
-        print(f"{found:6} of {words.count}  {name}", flush=True)
-    print(f"{len(WRONG) - missed} wrong models told apart, {missed} not")
+    for name in words.commands or KINDS:
+        try_command(name, words.first, words.count)
 
 
 if __name__ == "__main__":

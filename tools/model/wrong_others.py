@@ -1,11 +1,4 @@
-#!/usr/bin/env python3
-"""wrong_others.py [--first SEED] [--count N]
-
-Makes the trials of `taint`, `learn` and `measure-all`, N of each (300 without the option) from this seed (1) on, with
-models that are wrong in one thing each, and prints in how many trials the answer is another than that of the right
-model. Last it prints how many wrong models were told apart. Python 3 only."""
-import argparse
-import contextlib
+"""Models of `taint`, `learn` and `measure-all` that are wrong in one thing each."""
 from unittest.mock import patch
 
 import learns
@@ -28,8 +21,8 @@ right_mask_at, right_walk, right_use = Cut.mask_at, TaintedRun.make_walk, Labels
 
 def blind_to(slot):
     """A model that does not look at a slot that decides."""
-    return lambda: patch.object(Clearing, "add", lambda self, point, mask, sources=(), kind=None: right_add(
-        self, point, mask, sources, None if point[2] == slot else kind))
+    return lambda self, point, mask, sources=(), kind=None: right_add(
+        self, point, mask, sources, None if point[2] == slot else kind)
 
 
 def add_uncleared(self, point, mask, sources=(), kind=None):
@@ -123,18 +116,6 @@ def walk_keeping(self):
     return self.hidden
 
 
-def several(*patches):
-    """Several patches as one."""
-    def enter():
-        """Enters all of them."""
-        stack = contextlib.ExitStack()
-        for one in patches:
-            stack.enter_context(one)
-        return stack
-
-    return enter
-
-
 def write_changes(self, number, value):
     """Writes a register, and notes it where it changes."""
     if number:
@@ -213,70 +194,56 @@ def cut_with_last(self):
 
 
 TAINT = [
-    *((f"{slot} is not looked at", blind_to(slot)) for slot in ("ad", "de", "nr", "a0", "a1", "a2", "ou", "st")),
-    ("what crosses is not cleared", lambda: patch.object(Clearing, "add", add_uncleared)),
-    ("the last that decides in a turn is told", lambda: patch.object(Clearing, "add", add_last)),
-    ("operands go on with the masks of their registers", lambda: patch.object(Labels, "use", use_uncleared)),
-    ("masks are cleared by the visit before", lambda: patch.object(Clearing, "__init__", clear_by_visit_before)),
-    ("outputs of a skipped region have their own masks", lambda: patch.object(ClearedLabels, "put_out", out_clean)),
-    ("outputs of every region have all bits", lambda: patch.object(ClearedLabels, "put_out", out_whole)),
-    ("kept registers keep the masks of the region", lambda: patch.object(ClearedLabels, "leave", leave_without_keep)),
-    ("what is left is told before the budget", lambda: patch.object(TaintedRun, "make_turn", turn_left_first)),
-    ("what is left is told in every other turn", lambda: patch.object(TaintedRun, "make_turn", turn_forgetting)),
-    ("bits cross inside a skipped region", several(
-        patch.object(TaintedRun, "make_turn", turn_counting_hidden),
-        patch.object(TaintedRun, "make_walk", walk_keeping))),
-    ("masks change inside a skipped region", lambda: patch.object(TaintedRun, "is_hidden", lambda self, kind: False)),
-    ("code is not looked at", lambda: patch.object(TaintedRun, "look_at_code", lambda self: None)),
-    ("bases are not looked at", lambda: patch.object(TaintedRun, "look_at_bases", lambda self, region: None)),
+    *((f"{slot} is not looked at", Clearing, {"add": blind_to(slot)}) for slot in (
+        "ad", "de", "nr", "a0", "a1", "a2", "ou", "st")),
+    ("what crosses is not cleared", Clearing, {"add": add_uncleared}),
+    ("the last that decides in a turn is told", Clearing, {"add": add_last}),
+    ("operands go on with the masks of their registers", Labels, {"use": use_uncleared}),
+    ("masks are cleared by the visit before", Clearing, {"__init__": clear_by_visit_before}),
+    ("outputs of a skipped region have their own masks", ClearedLabels, {"put_out": out_clean}),
+    ("outputs of every region have all bits", ClearedLabels, {"put_out": out_whole}),
+    ("kept registers keep the masks of the region", ClearedLabels, {"leave": leave_without_keep}),
+    ("what is left is told before the budget", TaintedRun, {"make_turn": turn_left_first}),
+    ("what is left is told in every other turn", TaintedRun, {"make_turn": turn_forgetting}),
+    ("bits cross inside a skipped region", TaintedRun, {
+        "make_turn": turn_counting_hidden, "make_walk": walk_keeping}),
+    ("masks change inside a skipped region", TaintedRun, {"is_hidden": lambda self, kind: False}),
+    ("code is not looked at", TaintedRun, {"look_at_code": lambda self: None}),
+    ("bases are not looked at", TaintedRun, {"look_at_bases": lambda self, region: None}),
 ]
 LEARN = [
-    ("a write of the same value to a register is passed over", several(
-        patch.object(NotingGuest, "write_register", write_changes, create=True))),
-    ("a write of the same value to a byte is passed over", several(
-        patch.object(NotingGuest, "write_word", write_word_changes, create=True))),
-    ("the last leave alone says what is kept", lambda: patch.object(NotingGuest, "settle_kept", settle_last)),
-    ("ranges that touch are not joined", lambda: patch.object(learns, "ranges_of", single_ranges)),
-    ("every register is declared", lambda: patch.object(NotingGuest, "settle_kept", declare_all)),
-    ("a call inside a region is passed over", lambda: patch.object(NotingGuest, "declare_call", lambda self: None)),
+    ("a write of the same value to a register is passed over", NotingGuest, {
+        "write_register": write_changes}),
+    ("a write of the same value to a byte is passed over", NotingGuest, {
+        "write_word": write_word_changes}),
+    ("the last leave alone says what is kept", NotingGuest, {"settle_kept": settle_last}),
+    ("ranges that touch are not joined", learns, {"ranges_of": single_ranges}),
+    ("every register is declared", NotingGuest, {"settle_kept": declare_all}),
+    ("a call inside a region is passed over", NotingGuest, {"declare_call": lambda self: None}),
 ]
 MANY = [
-    ("the first run alone counts", lambda: patch.object(United, "__init__", first_alone)),
-    ("masks of the second run stand behind the first", lambda: patch.object(manys, "united_runs", joined_behind)),
-    ("masks of visits of one run are left out", lambda: patch.object(manys, "united_runs", shortest)),
-    ("the rest is the last mask", lambda: patch.object(Many, "cut", cut_with_last)),
-]
-COMMANDS = [
-    ("taint", lambda seed: (lambda files, words, rules: (files, [*words, *rules]))(*taint_trial(seed)), TAINT),
-    ("learn", learn_trial, LEARN),
-    ("measure-all", many_trial, MANY),
+    ("the first run alone counts", United, {"__init__": first_alone}),
+    ("masks of the second run stand behind the first", manys, {"united_runs": joined_behind}),
+    ("masks of visits of one run are left out", manys, {"united_runs": shortest}),
+    ("the rest is the last mask", Many, {"cut": cut_with_last}),
 ]
 
 
-def answer(command, files, words):
-    """The model's answer, or what stops it."""
-    try:
-        return answer_to(files, [command, *words])
-    except (KeyError, IndexError, ValueError, TypeError) as failure:
-        return repr(failure)
+def taint_trials(seeds):
+    """The files and the command lines of trials of `taint`."""
+    return [(files, ["taint", *words, *rules]) for files, words, rules in map(taint_trial, seeds)]
 
 
-def main():
-    """Reads the words of the command and tries every wrong model."""
-    parser = argparse.ArgumentParser(description=__doc__, formatter_class=argparse.RawDescriptionHelpFormatter)
-    parser.add_argument("--first", type=int, default=1, metavar="SEED")
-    parser.add_argument("--count", type=int, default=300, metavar="N")
-    words, missed, tried = parser.parse_args(), 0, 0
-    for command, trial_of, wrong in COMMANDS:
-        trials = [trial_of(seed) for seed in range(words.first, words.first + words.count)]
-        right = [answer(command, *trial) for trial in trials]
-        for name, change in wrong:
-            with change():
-                found = sum(answer(command, *trial) != expected for trial, expected in zip(trials, right))
-            missed, tried = missed + (found == 0), tried + 1
-            print(f"{found:6} of {len(trials)}  {command}: {name}", flush=True)
-    print(f"{tried - missed} wrong models told apart, {missed} not")
+def learn_trials(seeds):
+    """The files and the command lines of trials of `learn`."""
+    return [(files, ["learn", *words]) for files, words in map(learn_trial, seeds)]
 
 
-if __name__ == "__main__":
-    main()
+def many_trials(seeds):
+    """The files and the command lines of trials of `measure-all`."""
+    return [(files, ["measure-all", *words]) for files, words in map(many_trial, seeds)]
+
+
+def answer(trial):
+    """The status and the text of a trial."""
+    return answer_to(*trial)
