@@ -31,13 +31,41 @@ from answering import Program
 from bounding import SEARCH_RULES, Bounding, found
 from elf_symbols import ProgramFile
 from guest_folder import GuestFolder, content
-from how_many_runs import SMALL, auctions, contacts, names, passwords, readings
 from run_facts import Inputs, read
 from verdicts import real_run
 
 ROUNDS, LEARNT, JOBS = 60, 24, 8
 ASSEMBLED = "examples/bit/program"
 PIN = "crates/machine_rows/data/pin-gcc.elf"
+SMALL = "abcdefghijklmnopqrstuvwxyz"
+
+
+def passwords(dice):
+    """A password with so many letters right, each number as often, and others at random."""
+    right = dice.randrange(9)
+    return ("tortilla"[:right] + "".join(dice.choice(SMALL) for _ in range(8 - right))).encode()
+
+
+def names(dice):
+    """A name of 1 to 12 letters, each length as often."""
+    length = dice.randint(1, 12)
+    return (dice.choice(SMALL).upper() + "".join(dice.choice(SMALL) for _ in range(length - 1))).ljust(12, ".").encode()
+
+
+def auctions(dice):
+    """The bids of an auction."""
+    return "".join(f"{dice.randrange(80, 999):03}" for _ in range(4)).encode()
+
+
+def readings(dice):
+    """Five readings, most of which are usual."""
+    usual = [(12, 20), (96, 100), (111, 219), (51, 90), (61, 80)]
+    return bytes(dice.randint(*one) if dice.random() < 0.75 else dice.randrange(256) for one in usual)
+
+
+def contacts(dice):
+    """Eight different numbers below 32 in ascending order."""
+    return bytes(sorted(dice.sample(range(32), 8)))
 
 
 def any_bytes(length):
