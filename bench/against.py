@@ -17,6 +17,7 @@ TURNS = 1_900_000
 
 
 def compare_checks(programs, times, folder):
+    """Prints the seconds of `check` of both programs, and their ratio."""
     print(f"{'check':24}{'turns':>12}{'old':>10}{'new':>10}{'new / old':>11}")
     for name, guest, secrets in run.rows():
         tries = in_turns([partial(run.check, program, folder, guest, secrets) for program in programs], times)
@@ -25,6 +26,7 @@ def compare_checks(programs, times, folder):
 
 
 def compare_measures(programs, times, folder):
+    """Prints the seconds of `measure` of both programs, their ratio, and the memory of both."""
     print(f"{'measure':24}{'turns':>12}{'old':>10}{'new':>10}{'new / old':>11}{'memory of both':>22}")
     for name, guest in measure.rows(TURNS):
         tries = in_turns([partial(measure.measure_alone, program, folder, guest) for program in programs], times)
@@ -36,6 +38,7 @@ def compare_measures(programs, times, folder):
 
 
 def main():
+    """Compares both programs."""
     parser = parser_of(__doc__, "old", "new")
     parser.add_argument("times", type=int, nargs="?", default=5, metavar="TIMES")
     words = parser.parse_args()

@@ -193,6 +193,7 @@ def number_text(number):
 
 
 def main():
+    """Times `bound` over the guests."""
     parser = parser_of(__doc__)
     parser.add_argument("times", type=int, nargs="?", default=1, metavar="TIMES")
     parser.add_argument("--against", type=program, metavar="OTHER")

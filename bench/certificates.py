@@ -16,6 +16,7 @@ from timing import parser_of
 
 
 def certificate():
+    """The text of a certificate with as many points and links as there may be."""
     count, wanted = 65_536, 1_048_576
     lines = ["flowcheck-graph 1", f"value {count}"]
     lines += [f"point 0 0x{65536 + 4 * i:08x} rs capacity 1 flow 1 side m" for i in range(count)]
@@ -28,6 +29,7 @@ def certificate():
 
 
 def main():
+    """Prints the seconds and the memory of `verify`."""
     program = parser_of(__doc__, "program").parse_args().program
     text = certificate()
     with tempfile.TemporaryDirectory() as folder:

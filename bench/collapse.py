@@ -12,6 +12,7 @@ LOADS = [(100, 300), (60_000, 1_000_000)]
 
 
 def main():
+    """Prints the seconds and the memory for each load."""
     parser = parser_of(__doc__)
     parser.add_argument("events", type=int, nargs="?", default=100_000_000, metavar="EVENTS")
     given = parser.parse_args()

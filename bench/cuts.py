@@ -18,6 +18,7 @@ END = "end\n"
 
 
 def rest(version):
+    """The masks behind `rest` in a cut of a version."""
     return "0x00000001" if version == 1 else "1*0x00000001 2*0x00000003"
 
 
@@ -33,6 +34,7 @@ def filled(version, lines):
 
 
 def many_points(version):
+    """A cut with as many points as a file may have."""
     lines = (f"point 1 {4 * n:#010x} rs 1*0x00000001 rest {rest(version)}\n" for n in range(1 << 30))
     return filled(version, lines)
 
@@ -45,6 +47,7 @@ def long_list(version):
 
 
 def main():
+    """Prints the seconds and the memory for each cut."""
     executable = parser_of(__doc__).parse_args().executable
     with tempfile.TemporaryDirectory() as folder:
         files, _ = prepare(executable, folder, Guest(EXIT, 3))

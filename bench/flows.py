@@ -33,21 +33,25 @@ def link_words(pairs, sources, sinks):
 
 
 def random_graph(points, links, chance):
+    """Links between any points, with those that begin and those that end: every 64th."""
     pairs = {(chance.randrange(points), chance.randrange(points)) for _ in range(links)}
     return sorted(pairs), range(0, points, 64), range(1, points, 64)
 
 
 def local_graph(points, links, chance):
+    """Links to near points, from the first 64 to the last 64."""
     each = max(1, links // points)
     pairs = {(p, min(points - 1, p + chance.randrange(1, 100))) for p in range(points - 1) for _ in range(each)}
     return sorted(pairs), range(0, 64), range(points - 64, points)
 
 
 def chain(points, links, chance):
+    """One link from each point to the next."""
     return [(p, p + 1) for p in range(points - 1)], [0], [points - 1]
 
 
 def layers(points, links, chance):
+    """Links from each layer of 1,024 points to the next."""
     width = 1024
     each = max(1, links // points)
     pairs = {(p, (p // width + 1) * width + chance.randrange(width)) for p in range(points - width) for _ in range(each)}
@@ -55,6 +59,7 @@ def layers(points, links, chance):
 
 
 def run(command, text):
+    """What a command prints of a text, and its seconds."""
     begin = time.monotonic()
     out = subprocess.run(command, input=text, capture_output=True, text=True, check=True).stdout
     return out, time.monotonic() - begin
@@ -162,6 +167,7 @@ def time_files(program, peer, words):
 
 
 def main():
+    """Prints the seconds of each graph."""
     parser = argparse.ArgumentParser(description=__doc__, formatter_class=argparse.RawDescriptionHelpFormatter)
     parser.add_argument("program", metavar="PROGRAM", help="the built program graph_rows")
     parser.add_argument("points", metavar="POINTS", type=int, nargs="?", default=65_536)

@@ -35,6 +35,7 @@ def counting(counts):
 
 
 def main():
+    """Prints the instructions of both programs, and their ratio."""
     words = parser_of(__doc__, "old", "new").parse_args()
     programs = [words.old, words.new]
     counts = []

@@ -80,6 +80,7 @@ class Folder:
 
 
 def main():
+    """Prints the seconds and the memory of runs at the limits."""
     parser = parser_of(__doc__)
     parser.add_argument("turns", type=int, nargs="?", default=20_000_000, metavar="TURNS")
     words = parser.parse_args()

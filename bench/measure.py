@@ -121,6 +121,7 @@ def rows(turns):
 
 
 def main():
+    """Prints the seconds and the memory of `measure` for each guest."""
     parser = parser_of(__doc__)
     parser.add_argument("turns", type=int, nargs="?", default=1_900_000, metavar="TURNS")
     words = parser.parse_args()

@@ -32,6 +32,7 @@ class Guest:
 
 
 def tight_loop(rounds):
+    """A guest that counts down from a number."""
     lines = [f"li t0, {rounds}", "loop: addi t0, t0, -1", "bne t0, x0, loop"] + EXIT
     return Guest(lines, 2 * rounds + 5)
 
@@ -113,6 +114,7 @@ def rows():
 
 
 def main():
+    """Prints the seconds and the memory of `check` for each guest."""
     executable = parser_of(__doc__).parse_args().executable
     print(f"{'guest':24}{'turns':>12}{'seconds':>10}{'ns a turn':>11}{'turns a second':>16}{'memory':>10}")
     with tempfile.TemporaryDirectory() as folder:

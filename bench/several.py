@@ -113,6 +113,7 @@ class Calls:
 
 
 def main():
+    """Prints what several secrets cost together."""
     parser = parser_of(__doc__)
     parser.add_argument("--turns", type=int, metavar="N")
     parser.add_argument("--instructions", action="store_true")

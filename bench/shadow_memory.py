@@ -35,14 +35,17 @@ def timed(executable, lines):
 
 
 def bytes_in_pages(count):
+    """Lines that label the first byte of each of so many pages."""
     return [f"range {BASE + PAGE * page:x} 1 ff 10010" for page in range(count)]
 
 
 def points_in_a_page(count):
+    """Lines that label so many bytes of a page, each by a point of its own."""
     return [f"range {BASE + byte:x} 1 ff {BASE + 4 * byte:x}" for byte in range(count)]
 
 
 def main():
+    """Prints the memory for each way to label bytes."""
     executable = parser_of(__doc__).parse_args().executable
     rows = [
         ("nothing labelled", 0, [f"clean {BASE:x} {MEMORY:x}"]),

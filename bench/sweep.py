@@ -30,6 +30,7 @@ def guest_of(turns):
 
 
 def assembled(executable, folder, turns):
+    """Writes the files of a guest with so many turns."""
     (folder / "source").write_text(guest_of(turns))
     program = subprocess.run([executable, "asm", folder / "source"], stdout=subprocess.PIPE, check=True).stdout
     (folder / "program").write_bytes(program)
@@ -68,6 +69,7 @@ def swept(executable, folder, secrets, turns, jobs):
 
 
 def main():
+    """Prints how many secrets a second sweeps judge."""
     parser = argparse.ArgumentParser(description=__doc__, formatter_class=argparse.RawDescriptionHelpFormatter)
     parser.add_argument("executable", type=os.path.abspath)
     parser.add_argument("--secrets", nargs=2, type=int, default=[20_000, 5_000])

@@ -74,6 +74,7 @@ def both(executable, folder, guest, secrets, times, measure):
 
 
 def main():
+    """Prints what `taint` costs beside `check`."""
     parser = parser_of(__doc__)
     parser.add_argument("times", type=int, nargs="?", default=5, metavar="TIMES")
     parser.add_argument("--instructions", action="store_true")

@@ -31,7 +31,7 @@ from answering import Program
 from best_bound import BestBound
 from best_words import best_lines, keep_files
 from run_facts import Inputs, read
-from run_words import add_options, length_of, number, option_words, parser_of, look_at_secrets
+from run_words import add_options, length_of, look_at_secrets, number, option_words, parser_of
 from tool import finish, look_at_place, program_of, told, wrapped, write_text
 
 NOTHING = "Nothing was found within the time: --seconds gives more"

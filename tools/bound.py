@@ -33,7 +33,7 @@ from bound_words import bounded_lines, unclear_lines
 from bounding import SEARCH_RULES, Bounding, NoBound, found
 from parting import Parting
 from run_facts import Inputs
-from run_words import add_options, length_of, number, option_words, parser_of, look_at_secrets
+from run_words import add_options, length_of, look_at_secrets, number, option_words, parser_of
 from sampling import trust_of
 from source_lines import Places
 from tool import finish, look_at_place, program_of, told, wrapped, write_text

@@ -31,7 +31,7 @@ sys.path[:0] = [os.path.join(HERE, "explain"), os.path.join(HERE, "model")]
 
 from answering import Program
 from region_finding import Calls, NoRegion, around_bounds, enclosures_of
-from region_joining import Declaration, Learner, pretty_text
+from region_joining import Declaration, Learner, learn_each, pretty_text
 from run_facts import read, regions_of
 from run_words import MOST_LENGTH, TURNS, number, parser_of
 from sampling import drawn
@@ -80,17 +80,9 @@ def random_secrets(words, folder):
 
 def learn_all(learner, declarations, secrets, randoms):
     """Learns what the runs on all secrets need, and says what each adds."""
-    for secret in [*secrets, *randoms]:
-        try:
-            learnt = learner.learnt([one.region for one in declarations], secret)
-        except NoRegion:
-            if secret in randoms:
-                continue
-            raise
-        for declaration, region in zip(declarations, learnt):
-            added = declaration.add(region)
-            if added:
-                note(f"{os.path.basename(secret)}: region {region.number}: {added}")
+    for secret, region, added in learn_each(learner, declarations, [*secrets, *randoms], randoms):
+        if added:
+            note(f"{os.path.basename(secret)}: region {region.number}: {added}")
 
 
 def tell(number, enclosure, declaration, places):
@@ -127,8 +119,8 @@ def main():
         return told(str(fault), 1)
     if not is_run:
         note(NO_RUN)
-    for number, (enclosure, declaration) in enumerate(zip(enclosures, declarations), 1):
-        tell(number, enclosure, declaration, places)
+    for place, (enclosure, declaration) in enumerate(zip(enclosures, declarations), 1):
+        tell(place, enclosure, declaration, places)
     sys.stdout.write(text)
     return 0
 

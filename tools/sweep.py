@@ -29,13 +29,12 @@ from built_program import program_words
 from cuts import read_cut, read_regions
 from elf_symbols import ProgramFile
 from engines import Parallel, Slurm
-from manifest import Sweep, difference
-from merge import Contradiction, Merged, answer_of, is_judged, power, report_of, write_tables
+from manifest import Sweep
+from merge import Contradiction, Merged, power, report_of, write_tables
 from misleading import of_cut
 from refusals import cut_fault, program_fault, regions_fault
 from run_words import number
 from secret_lists import Refused, lists_of
-
 
 BOUND = """Asks `bound` of many public inputs with one program, cut, regions, budget, limits of turns and of walks, each
 in a call of its own. The calls are handed to GNU parallel, on this machine or over ssh, or to Slurm. Puts a report,
@@ -214,6 +213,7 @@ def verdicts_of(folder, sweep):
 
 
 def merged_of(folder, sweep):
+    """What was judged, with its tables and its picture in the folder."""
     merged = Merged(folder, sweep).take_all()
     write_tables(folder, merged)
     put(os.path.join(folder, "sweep.svg"), picture(merged, power(merged.budget)))
@@ -221,6 +221,7 @@ def merged_of(folder, sweep):
 
 
 def sweep_all(args):
+    """Sweeps what is not answered yet, and prints the report; the status."""
     begin = time.perf_counter()
     folder = os.path.abspath(args.results)
     lock = locked(folder)
@@ -242,6 +243,7 @@ def sweep_all(args):
 
 
 def main():
+    """Reads the words of the command, and tells what is refused; the status."""
     args = words()
     try:
         return sweep_all(args)

@@ -133,6 +133,7 @@ def ask(words):
 
 
 def judge(command, folder, words):
+    """What is wrong with the answer of a command to a list of words, or None."""
     run = subprocess.run(command + words, cwd=folder, stdout=subprocess.PIPE, stderr=subprocess.PIPE, timeout=60)
     name = first_file(words)
     wanted = (2, "refused 2 usage\n", "told") if name is None else (5, "refused 5 load %s\n" % name, "told")
@@ -149,6 +150,7 @@ def judge(command, folder, words):
 
 
 def main():
+    """Tries random lists of words; the status, 1 where an answer is wrong."""
     parser = argparse.ArgumentParser()
     parser.add_argument("--trials", type=int, default=10_000)
     parser.add_argument("--seed", type=int, default=1)

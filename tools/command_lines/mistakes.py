@@ -179,6 +179,7 @@ def write_table(name, command, head, mistakes, is_script):
 
 
 def main():
+    """Runs the table; the status, 1 where something is answered otherwise."""
     parser = argparse.ArgumentParser(description=__doc__, formatter_class=argparse.RawDescriptionHelpFormatter)
     parser.add_argument("--write", action="store_true", help="write what is answered into the table, to be read")
     parser.add_argument("--scripts", action="store_true", help="run the scripts, with the executable as FLOWCHECK")

@@ -2,13 +2,12 @@
 import html
 import re
 
-from cuts import point_order, read_cut
+from cuts import point_order
 from document import Section, Table, Words
 from flow_picture import bits_text
 from guest import shown
 from misleading import HASH, program_hash
-from refusals import cut_fault
-from run_facts import Unusable, read
+from run_facts import Unusable, cut_in, read
 
 IN_PAGE = re.compile(rb"<summary>The cut</summary><pre[^>]*>(flowcheck-cut .*?\nend)\s*</pre>", re.DOTALL)
 OTHER = "It is of another program, or of another build: {} of its points are no places of this one."
@@ -24,9 +23,7 @@ class Earlier:
             text = html.unescape(page[1].decode()).encode() + b"\n"
         elif text.startswith(b"<!DOCTYPE"):
             raise Unusable(f"{name}: this page has no cut; a page of one measured run has one")
-        if cut_fault(text):
-            raise Unusable(f"{name}: refused 3 cut {cut_fault(text)}; tools/lint.py shows it")
-        self.cut = read_cut(text)
+        self.cut = cut_in(name, text)
         self.bits = {point: sum(count * mask.bit_count() for count, mask in runs + (rest if not runs else []))
                      for point, (runs, rest) in self.cut.points.items()}
 

@@ -40,6 +40,17 @@ class Program:
         """What the program has said of its last refusal, on lines behind it."""
         return "".join("\n" + line for line in self.said.split("\n")[1:] if line)
 
+    def text(self, words, fault):
+        """The text of a command that must succeed; where it does not, a fault is made of what was said and raised."""
+        status, text = self.answer(words)
+        if status:
+            raise fault(text.strip() or f"status {status}")
+        return text
+
+    def first_line(self, words):
+        """The first line of the text."""
+        return self.answer(words)[1].split("\n")[0]
+
     def answer(self, words):
         """The status and the text."""
         if not self.words:

@@ -12,9 +12,10 @@ from document import Commands, Folded, Section, Table, Words
 from graph_picture import GraphPicture
 from guest import shown
 from instruction_text import instruction_text, slot_words
+from judged import KINDS
 from parting import Parting
-from pieces_of_code import Marks, listing_blocks, source_blocks
-from rejection_page import KINDS, lines_table, point_text
+from pieces_of_code import Marks, code_sections
+from rejection_page import lines_table, point_text
 from run_facts import Inputs, cut_of
 from sampling import trust_of
 
@@ -201,8 +202,7 @@ def bound_page(bounded, program, places):
     cut = {point[1] for point in bounded.cut.points}
     marks = Marks({}, cut | set(choices), None if answer.is_bounded else bounded.walk.begin)
     key = "Marked: where bits cross." if answer.is_bounded else "Marked: where it is unclear, and where bits cross."
-    sections.append(Section("The source", Words(key, "dim"), *source_blocks(places, marks)))
-    sections.append(Section("The listing", *listing_blocks(program, places, marks)))
+    sections += code_sections(program, places, marks, Words(key, "dim"))
     again = [*command_words(), "bound", inputs.program, inputs.public, bounded.cut_name, str(bounded.budget)]
     lines = [shlex.join([*again, *inputs.options, *bounded.bounding.flags(), "--list"])]
     sections.append(Section("Ask again", Commands(lines)))

@@ -1,6 +1,5 @@
 """Cuts with which `bound` answers: each is asked about, gets the points that it lacks, and is asked about again."""
 import re
-import tempfile
 from collections import Counter
 
 from answering import command_words
@@ -8,7 +7,7 @@ from bounds import Task
 from cuts import Cut, point_order, read_cut
 from guest import shown
 from run_facts import read
-from tool import Progress
+from tool import Progress, text_file
 from verdicts import MOST_BUDGET, USUAL_TURNS
 from walk_tracing import endless_of, traced
 
@@ -104,10 +103,8 @@ class Bounding:
     def answer(self, cut, budget, paths=None):
         """What `bound` answers about a cut, with as many walks as are allowed or fewer."""
         options = [*self.inputs.without("--paths"), "--paths", str(paths or self.paths), *self.flags(), "--list"]
-        with tempfile.NamedTemporaryFile("w", suffix=".cut") as file:
-            file.write(cut.text())
-            file.flush()
-            words = ["bound", self.inputs.program, self.inputs.public, file.name, str(budget)]
+        with text_file(cut.text(), ".cut") as name:
+            words = ["bound", self.inputs.program, self.inputs.public, name, str(budget)]
             self.calls += 1
             self.progress.show(f"call {self.calls:,} of bound, with at most {paths or self.paths:,} walks")
             status, text = self.asked.answer([*words, *options])
@@ -145,9 +142,8 @@ class Bounding:
     def measured(self, secrets):
         """The cut of some secrets."""
         words = [self.inputs.program, self.inputs.public, *secrets, *self.inputs.without("--paths")]
-        status, text = self.asked.answer(["measure" if len(secrets) == 1 else "measure-all", *words])
-        if status:
-            raise NoBound((text.strip() or f"status {status}") + self.asked.explained())
+        command = "measure" if len(secrets) == 1 else "measure-all"
+        text = self.asked.text([command, *words], lambda said: NoBound(said + self.asked.explained()))
         return read_cut(text.encode())
 
     def empty(self, length):

@@ -1,15 +1,14 @@
 """Regions that are tried one after another: each is learnt and measured, and what lowers the number most is kept."""
 import concurrent.futures
 import os
-import tempfile
 import threading
 
 from certificates import Certificate
 from code_graph import CodeGraph
 from cuts import read_cut
 from region_finding import Calls, NoRegion, around_calls, around_places
-from region_joining import Declaration, pretty_text
-from tool import Progress
+from region_joining import Declaration, learn_each, pretty_text
+from tool import Progress, text_file
 
 BETRAYING = {"ad", "de", "nr", "a0", "a1", "a2"}
 MOST_TIES, MOST_CHECKED = 8, 64
@@ -73,10 +72,7 @@ def lines_text(places, inside, function):
 def passed_points(asked, inputs, secret):
     """The points at which secret bits pass in a run without regions, and how many."""
     words = [inputs.program, inputs.public, secret, *inputs.without("--regions", "--paths")]
-    status, text = asked.answer(["graph", *words])
-    if status:
-        raise NoRegion(text.strip())
-    return {point: capacity for point, capacity, _, _ in Certificate(text).points}
+    return {point: capacity for point, capacity, _, _ in Certificate(asked.text(["graph", *words], NoRegion)).points}
 
 
 def joined_regions(learner, calls, chosen, secrets, is_lenient=False):
@@ -84,15 +80,8 @@ def joined_regions(learner, calls, chosen, secrets, is_lenient=False):
     runs do not exit are passed over where it is lenient."""
     enclosures = sorted((one for candidate in chosen for one in candidate.enclosures), key=lambda one: one.enter)
     declarations = [Declaration(one.bare(number)) for number, one in enumerate(enclosures, 1)]
-    for number, secret in enumerate(secrets if declarations else []):
-        try:
-            learnt = learner.learnt([one.region for one in declarations], secret)
-        except NoRegion:
-            if is_lenient and number:
-                continue
-            raise
-        for declaration, region in zip(declarations, learnt):
-            declaration.add(region)
+    for _ in learn_each(learner, declarations, secrets, secrets[1:] if is_lenient else []):
+        pass
     written = [pair for pair in zip(enclosures, declarations) if not pair[1].is_empty()]
     for enclosure, declaration in written:
         declaration.add_code(*enclosure.may_write(calls), enclosure.is_call)
@@ -128,27 +117,17 @@ class Search:
         with self.lock:
             self.measured += 1
             self.progress.show(f"measurement {self.measured:,} of at most {self.most:,}")
-        with self.region_file(regions) as file:
-            status, cut = self.ask("measure", self.secrets[0], "--regions", file.name, *self.rules)
+        with text_file(pretty_text(regions), ".json") as name:
+            status, cut = self.ask("measure", self.secrets[0], "--regions", name, *self.rules)
         return None if status else Trial(chosen, regions, read_cut(cut.encode()).bits, cut)
-
-    @staticmethod
-    def region_file(regions):
-        """A file with these regions."""
-        file = tempfile.NamedTemporaryFile("w", suffix=".json")
-        file.write(pretty_text(regions))
-        file.flush()
-        return file
 
     def count_accepted(self, trial):
         """Counts how many of the other secrets are accepted with the cut and the number of a trial."""
         others, trial.accepted = self.secrets[1:], 0
-        with self.region_file(trial.regions) as file, tempfile.NamedTemporaryFile("w") as cut:
-            cut.write(trial.cut)
-            cut.flush()
+        with text_file(pretty_text(trial.regions), ".json") as name, text_file(trial.cut) as cut:
             for first in range(0, len(others), MOST_CHECKED):
                 some = others[first : first + MOST_CHECKED]
-                _, text = self.ask("check", cut.name, str(trial.bits), *some, "--regions", file.name)
+                _, text = self.ask("check", cut, str(trial.bits), *some, "--regions", name)
                 trial.accepted += text.count("\naccepted ") + text.startswith("accepted ")
         return trial.accepted
 

@@ -9,7 +9,7 @@ from guest import shown
 from instruction_text import instruction_text, slot_words
 from measured_page import outputs_text
 from misleading import of_number, of_reads, section_of
-from pieces_of_code import Marks, listing_blocks, source_blocks
+from pieces_of_code import Marks, code_sections
 
 
 def number_section(many):
@@ -65,8 +65,7 @@ def many_page(many, program, places, told=()):
     notes = of_number(many.cut.bits) + [note for reads in many.reads for note in of_reads(*reads)] + [*told]
     sections = [number_section(many), section_of(notes), cut_section(many, program, places), runs_section(many)]
     key = Words("In red: the cut.", "dim", text="Marked by >: the cut.")
-    sections.append(Section("The source", key, *source_blocks(places, marks)))
-    sections.append(Section("The listing", *listing_blocks(program, places, marks)))
+    sections += code_sections(program, places, marks, key)
     words = [inputs.program, inputs.public, *many.secrets, *inputs.options]
     check = [*command_words(), "check", inputs.program, inputs.public, "cut", str(many.cut.bits), "OTHER"]
     lines = [shlex.join([*command_words(), "measure-all", *words]) + " >cut",

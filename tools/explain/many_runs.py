@@ -1,10 +1,9 @@
 """Several runs under one cut: what crosses at each point of it in each run."""
-import tempfile
-
 from cuts import VisitMasks, read_cut
 from guest import RealGuest
 from run_facts import NoMeasure, read
 from running import reads_of
+from tool import text_file
 from verdicts import USUAL_TURNS, RealRun, crossing
 
 
@@ -25,9 +24,7 @@ class ManyRuns:
     def __init__(self, asked, inputs, secrets, program):
         self.inputs, self.secrets, self.program = inputs, secrets, program
         words = [inputs.program, inputs.public, *secrets, *inputs.options]
-        status, self.cut_text = asked.answer(["measure-all", *words])
-        if status:
-            raise NoMeasure(self.cut_text.strip())
+        self.cut_text = asked.text(["measure-all", *words], NoMeasure)
         self.cut = read_cut(self.cut_text.encode())
         self.capacities = {point: sum(count * mask.bit_count() for count, mask in runs)
                            for point, (runs, _) in self.cut.points.items()}
@@ -37,10 +34,8 @@ class ManyRuns:
 
     def lines(self, asked):
         """What `check` says of each secret under the cut, without its number."""
-        with tempfile.NamedTemporaryFile("w") as file:
-            file.write(self.cut_text)
-            file.flush()
-            words = [self.inputs.program, self.inputs.public, file.name, str(self.cut.bits), *self.secrets]
+        with text_file(self.cut_text) as name:
+            words = [self.inputs.program, self.inputs.public, name, str(self.cut.bits), *self.secrets]
             _, text = asked.answer(["check", *words, *self.inputs.without("--rules", "--cut")])
         return text.split("\n")[: len(self.secrets)]
 

@@ -95,7 +95,7 @@ def level_words(picture, places):
     return "by function" if picture.grouping.level == "function" else "by the sides of the cut"
 
 
-def code_sections(facts, program, places):
+def annotated_sections(facts, program, places):
     """The annotated sources and listings."""
     cut_bits = {}
     for cut in facts.cut_points:
@@ -191,7 +191,7 @@ def measured_page(facts, program, places, earlier=None, notes=()):
     sections.append(against_section(facts, earlier, program, places) if earlier else None)
     reasons = Reasons(facts, noted, program)
     sections += [why_section(reasons, places), remedies_section(reasons), picture_section(facts, places)]
-    sections += code_sections(facts, program, places) + [regions_section(facts, places), commands_section(facts)]
+    sections += annotated_sections(facts, program, places) + [regions_section(facts, places), commands_section(facts)]
     return title, [section for section in sections if section]
 
 

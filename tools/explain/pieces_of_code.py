@@ -1,7 +1,7 @@
 """The annotated sources and listings of a page: which lines secret bits pass, and where the cut is."""
 import os
 
-from document import Marked
+from document import Marked, Section
 from flow_picture import bits_text
 from guest import shown
 from instruction_text import instruction_text
@@ -55,6 +55,12 @@ def source_blocks(places, marks):
         if lines:
             blocks.append(Marked(os.path.basename(file), source_lines(lines, by_file[file], marks)))
     return blocks
+
+
+def code_sections(program, places, marks, key):
+    """The sources, with what their marks mean, and the listings."""
+    return [Section("The source", key, *source_blocks(places, marks)),
+            Section("The listing", *listing_blocks(program, places, marks))]
 
 
 def source_lines(lines, by_line, marks):

@@ -18,7 +18,7 @@ class Calls:
 
     def __init__(self, program):
         self.program, self.sites, self.jumps, self.indirect, self.targets = program, {}, {}, set(), {}
-        self.askers, before = {}, None
+        before = None
         for address in program.addresses():
             instruction = program.instruction(address)
             target = self.target_of(address, instruction, before)

@@ -1,14 +1,14 @@
 """Declarations of regions that several runs need together: each is learnt by itself, and they are joined."""
 import os
-import tempfile
 
 from cuts import read_regions
 from guest import Region, shown
 from instruction_text import NAMES as REGISTERS
 from learns import NotingGuest, NotLearnt, ranges_of, regions_text, run_to_exit
-from region_finding import NoRegion
 from refusals import MOST_BYTES, MOST_RANGES
+from region_finding import NoRegion
 from run_facts import read
+from tool import text_file
 
 
 class Learner:
@@ -22,10 +22,9 @@ class Learner:
     def learnt(self, regions, secret):
         """The regions as the run on a secret needs them, perhaps with more ranges than a region may have."""
         words = [self.program_name, self.public_name, secret]
-        with tempfile.NamedTemporaryFile(suffix=".json") as file:
-            file.write(regions_text([Region(one.number, one.enter, one.leave) for one in regions]).encode())
-            file.flush()
-            status, text = self.asked.answer(["learn", *words, file.name, "--turns", str(self.limit)])
+        bare = [Region(one.number, one.enter, one.leave) for one in regions]
+        with text_file(regions_text(bare), ".json") as name:
+            status, text = self.asked.answer(["learn", *words, name, "--turns", str(self.limit)])
         if status == 0:
             return read_regions(text.encode())
         if text.split()[4:5] == ["ranges"]:
@@ -45,6 +44,20 @@ class Learner:
             learnt.append(Region(number, region.enter, region.leave, written & changed, written - changed,
                                  ranges_of(stored)))
         return learnt
+
+
+def learn_each(learner, declarations, secrets, passed_over):
+    """Adds to declarations what the runs on secrets need; each secret with a region, and in words what is new. Those of
+    the secrets that may be passed over are, where their runs do not exit."""
+    for secret in secrets if declarations else []:
+        try:
+            learnt = learner.learnt([one.region for one in declarations], secret)
+        except NoRegion:
+            if secret in passed_over:
+                continue
+            raise
+        for declaration, region in zip(declarations, learnt):
+            yield secret, region, declaration.add(region)
 
 
 class Declaration:

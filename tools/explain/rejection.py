@@ -1,9 +1,9 @@
 """Where and why `check` rejects a secret, by the model: the two runs in lockstep, with what passes in the last turn."""
 from cuts import VisitMasks, slot_width
 from guest import GuestExit, GuestFault, RealGuest, RegionBreak, ReplayStop
+from judged import JudgedSecret, listed
 from measures import MeasuredRun, Refused
-from run_facts import cut_of, read
-from verdicts import MOST_BUDGET, USUAL_TURNS, RealRun, Replay, Turn, crossing, judge, mark_text, walk
+from verdicts import MOST_BUDGET, RealRun, Replay, Turn, crossing, judge, mark_text, walk
 
 MOST_POINTS = 40
 
@@ -143,17 +143,12 @@ class LabelledRun(MeasuredRun):
             pass
 
 
-class Rejection:
+class Rejection(JudgedSecret):
     """A secret that a check is asked about: the program's line, the model's line, and what the model saw."""
 
-    def __init__(self, asked, inputs, cut_name, budget, program):
-        self.inputs, self.cut_name, self.budget, self.cut = inputs, cut_name, int(budget), cut_of(cut_name)
-        words = ["check", inputs.program, inputs.public, cut_name, budget, inputs.secret, *inputs.options]
-        _, text = asked.answer(words)
-        self.line = text.split("\n")[0]
-        self.regions, self.public, self.secret = inputs.regions(), read(inputs.public), read(inputs.secret)
-        self.program = program
-        self.table, self.limit = 1, int(inputs.option("--turns") or USUAL_TURNS)
+    def __init__(self, *named):
+        super().__init__(*named)
+        self.line = self.line_of("check", self.inputs.options)
         judged = self.judged(self.cut, self.budget)
         self.is_accepted = judged.word == "accepted"
         self.reason, self.model_line = judged.text, f"{judged.word} 1 {judged.text}"
@@ -164,7 +159,7 @@ class Rejection:
 
     def runs(self, cut, budget):
         """What both runs are made of."""
-        return self.program.image, self.public, self.secret, self.regions, cut, budget, self.limit
+        return *self.run_inputs(), cut, budget, self.limit
 
     def judged(self, cut, budget):
         """The model's judgement of the secret."""
@@ -172,8 +167,7 @@ class Rejection:
 
     def masks_of_labels(self):
         """The mask of the secret bits that passed each point of the real run."""
-        guest = RealGuest(self.program.image, self.public, self.secret, self.regions)
-        run, masks = LabelledRun(guest, self.limit), {}
+        run, masks = LabelledRun(self.guest(), self.limit), {}
         for point, runs in run.passings.runs.items():
             for _, mask in runs:
                 masks[point] = masks.get(point, 0) | mask
@@ -181,16 +175,13 @@ class Rejection:
 
     def find_cover(self):
         """Adds, as long as the two runs part, the point of the last turn at which the fewest bits differ."""
-        masks, cut = self.masks_of_labels(), self.cut.migrated()
-        cut.version, cut.points = self.cut.version, dict(self.cut.points)
+        masks, cut = self.masks_of_labels(), self.widened()
         lockstep = Lockstep(*self.runs(cut, MOST_BUDGET))
         while len(self.covers) < MOST_POINTS:
             point, mask = self.cover_of(lockstep, masks, cut)
             if point is None:
                 break
-            runs, rest = cut.points.get(point, ([], []))
-            for _, listed in runs + rest:
-                mask |= listed
+            mask |= listed(point, cut)
             cut.points[point] = [], [(1, mask)]
             self.covers.append((point, mask))
             lockstep = Lockstep(*self.runs(cut, MOST_BUDGET))

@@ -1,20 +1,18 @@
 """The page of a secret that `check` is asked about: where the two runs part, and what would have covered it."""
 import shlex
-from os.path import basename as base
 
-from answering import command_words, script_words
+from answering import script_words
 from document import Commands, Section, Table, Words
 from flow_picture import bits_text
 from guest import shown
-from instruction_text import instruction_text, slot_words
+from instruction_text import slot_words
+from judged import judged_page, place_blocks, verdict_blocks
 from learns import NotLearnt, learn
 from measured_page import REFUSALS, outputs_text
 from measures import Measured, Refused
-from pieces_of_code import Marks, listing_blocks, source_blocks
 from region_finding import Calls, NoRegion, around_calls
 
 MOST_ROWS = 20
-KINDS = {"enter": "the entry of a region", "leave": "the leave of a region", "skip": "the skip of a region"}
 REASONS = {
     "budget": "The run of this secret lets more bits cross the cut than the budget allows.",
     "replay": "The replay, which knows the bits that crossed and not the secret, cannot go on as the real run does.",
@@ -39,10 +37,7 @@ def reason_words(reason):
 
 def verdict_section(rejection):
     """The verdict in words."""
-    line = rejection.line
-    blocks = [Words(line, "number")]
-    if line != rejection.model_line:
-        blocks.append(Words(f"The model in tools/model says another thing, which is a fault: {rejection.model_line}"))
+    blocks = verdict_blocks(rejection)
     if rejection.is_accepted:
         words = (
             "Nothing parts the two runs. Of any secrets that this check accepts at most "
@@ -77,13 +72,8 @@ def where_section(rejection, program, places):
     lockstep = rejection.lockstep
     if lockstep is None or rejection.is_accepted:
         return None
-    address, kind = lockstep.begin, lockstep.kind
-    place, text = places.at(address), instruction_text(program.instruction(address), address)
     turn = f"turn {lockstep.number:,} of those that both runs make" if lockstep.turn else "where the run stands"
-    parts = [f"It is {turn}, at {shown(address)}", text if kind == "step" else KINDS[kind]]
-    parts += [place.text()] if place.function else []
-    line = places.line_of(place).strip() or "No line of a source is known."
-    blocks = [Words(", ".join(parts) + "."), Words(line, "dim")]
+    blocks = place_blocks(program, places, lockstep.begin, lockstep.kind, turn)
     rows = []
     for passed in shown_of(lockstep.passed):
         sign = " (differs)" if passed.differs() else ""
@@ -197,36 +187,8 @@ def declaration_words(rejection):
     return []
 
 
-def crossing_section(rejection, places):
-    """The bits that crossed at each point."""
-    lockstep = rejection.lockstep
-    if lockstep is None or not lockstep.by_point:
-        return None
-    rows = [
-        [str(bits), f"{point[0]} {shown(point[1])} {point[2]}", places.at(point[1]).text(), slot_words(point[2])]
-        for point, bits in lockstep.by_point.items()
-    ]
-    words = f"Up to there {bits_text(len(lockstep.bits))} crossed; the budget is {rejection.budget}."
-    return Section("What crossed", Words(words), Table(["Bits", "Point", "Place", "What"], rows, None, "points"))
-
-
 def rejection_page(rejection, program, places):
     """The title and the sections of the page."""
-    inputs = rejection.inputs
-    word = "accepted" if rejection.is_accepted else "rejected"
-    title = f"{base(inputs.secret)} is {word} by {base(rejection.cut_name)} in {base(inputs.program)}"
+    run, word = rejection.lockstep, "accepted" if rejection.is_accepted else "rejected"
     sections = [verdict_section(rejection), where_section(rejection, program, places), cover_section(rejection, places)]
-    sections.append(crossing_section(rejection, places))
-    lockstep = rejection.lockstep
-    if lockstep:
-        bits = {}
-        for point, count in lockstep.by_point.items():
-            bits[point[1]] = bits.get(point[1], 0) + count
-        parted = None if rejection.is_accepted else lockstep.begin
-        marks = Marks(bits, {point[1] for point in rejection.cut.points}, parted)
-        key = Words("Marked: where it is, and the cut with the bits that crossed there.", "dim")
-        sections.append(Section("The source", key, *source_blocks(places, marks)))
-        sections.append(Section("The listing", *listing_blocks(program, places, marks)))
-    again = shlex.join([*command_words(), *inputs.words("measure")]) + " >cut"
-    sections.append(Section("Measure this secret", Commands([again])))
-    return title, [section for section in sections if section]
+    return judged_page(rejection, word, sections, run, None if rejection.is_accepted or not run else run.begin, places)

@@ -3,7 +3,6 @@ import json
 
 from certificates import Certificate
 from cuts import length_of, read_cut, read_regions
-from passings import POINT, RELAY
 from refusals import cut_fault, regions_fault
 
 
@@ -47,24 +46,28 @@ def read(name):
         return file.read()
 
 
+def require(name, form, fault):
+    """Raises what is said of a file of a form that has a fault."""
+    if fault:
+        raise Unusable(f"{name}: refused 3 {form} {fault}; tools/lint.py shows it")
+
+
 def regions_of(name):
     """The regions of a region file, none where no file is named."""
-    if not name:
-        return []
-    file = read(name)
-    fault = regions_fault(file)
-    if fault:
-        raise Unusable(f"{name}: refused 3 regions {fault}; tools/lint.py shows it")
-    return read_regions(file)
+    file = read(name) if name else None
+    require(name, "regions", name and regions_fault(file))
+    return read_regions(file) if name else []
 
 
 def cut_of(name):
     """The cut of a file."""
-    file = read(name)
-    fault = cut_fault(file)
-    if fault:
-        raise Unusable(f"{name}: refused 3 cut {fault}; tools/lint.py shows it")
-    return read_cut(file)
+    return cut_in(name, read(name))
+
+
+def cut_in(name, text):
+    """The cut of the text of a file."""
+    require(name, "cut", cut_fault(text))
+    return read_cut(text)
 
 
 class CutPoint:
@@ -83,22 +86,14 @@ class RunFacts:
 
     def __init__(self, program, inputs):
         self.inputs = inputs
-        self.numbers = json.loads(self.ask(program, inputs.words("report") + ["--json"]))
+        self.numbers = json.loads(program.text(inputs.words("report") + ["--json"], NoMeasure))
         short = Inputs(inputs.program, inputs.public, inputs.secret, inputs.without("--cut"))
-        self.cut_text = self.ask(program, short.words("measure"))
-        self.certificate = Certificate(self.ask(program, short.words("graph")))
+        self.cut_text = program.text(short.words("measure"), NoMeasure)
+        self.certificate = Certificate(program.text(short.words("graph"), NoMeasure))
         self.cut = read_cut(self.cut_text.encode())
         bits = {(item["region"], int(item["address"], 16), item["slot"]): item["bits"] for item in self.numbers["cut"]}
         self.cut_points = [CutPoint(point, bits[point], runs) for point, (runs, _) in self.cut.points.items()]
         self.graph = self.certificate.graph
-
-    @staticmethod
-    def ask(program, words):
-        """The text of a command, which must succeed."""
-        status, text = program.answer(words)
-        if status:
-            raise NoMeasure(text.strip() or f"status {status}")
-        return text
 
     def flows(self):
         """The links that something flows over, as (source, target, flow)."""
@@ -111,9 +106,3 @@ class RunFacts:
     def halves(self, place):
         """Whether the two halves of a point are on the secret's side of the cut."""
         return self.certificate.points[place][3]
-
-    def is_on_secret_side(self, end, second):
-        """Whether an end of a link is on the secret's side."""
-        if end[0] == POINT:
-            return self.halves(end[1])[second]
-        return dict(self.certificate.relays)[end[1]] if end[0] == RELAY else False

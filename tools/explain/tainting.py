@@ -1,9 +1,8 @@
 """What `taint` finds of a secret, by the model: the turn at which it is found, the masks there, and what would clear
 them."""
-from guest import RealGuest
-from run_facts import cut_of, read
+from judged import JudgedSecret, listed
 from taints import Clearing, TaintedRun, Unclear, find
-from verdicts import MOST_BUDGET, USUAL_TURNS
+from verdicts import MOST_BUDGET
 
 
 class NotingClearing(Clearing):
@@ -65,17 +64,13 @@ class TracedTaint(TaintedRun):
         return [(point, visit[3], mask, left) for visit, (point, mask, left) in pairs]
 
 
-class Tainting:
+class Tainting(JudgedSecret):
     """A secret that `taint` is asked about: the program's line, the model's line, and what the model saw."""
 
-    def __init__(self, asked, inputs, cut_name, budget, program):
-        self.inputs, self.cut_name, self.budget, self.program = inputs, cut_name, int(budget), program
-        self.cut = cut_of(cut_name)
-        words = [inputs.program, inputs.public, cut_name, budget, inputs.secret, *inputs.options]
-        self.line = asked.answer(["taint", *words])[1].split("\n")[0]
-        self.check_line = asked.answer(["check", *words[:5], *inputs.without("--rules")])[1].split("\n")[0]
-        self.regions, self.public, self.secret = inputs.regions(), read(inputs.public), read(inputs.secret)
-        self.table, self.limit = int(inputs.option("--rules") or 1), int(inputs.option("--turns") or USUAL_TURNS)
+    def __init__(self, *named):
+        super().__init__(*named)
+        self.line = self.line_of("taint", self.inputs.options)
+        self.check_line = self.line_of("check", self.inputs.without("--rules"))
         found = self.found(self.cut, self.budget)
         self.is_clean, self.reason, self.model_line = found.word == "clean", found.text, f"{found.word} 1 {found.text}"
         self.run, self.lines, self.wider = None, [], None
@@ -85,35 +80,24 @@ class Tainting:
 
     def found(self, cut, budget):
         """What the model finds."""
-        return find(self.program.image, self.public, self.secret, self.regions, cut, self.table, budget, self.limit)
+        return find(*self.run_inputs(), cut, self.table, budget, self.limit)
 
     def traced(self, cut, budget, is_lenient):
         """The run by its masks."""
-        guest = RealGuest(self.program.image, self.public, self.secret, self.regions)
-        return TracedTaint(guest, cut, self.table, budget, self.limit, is_lenient)
+        return TracedTaint(self.guest(), cut, self.table, budget, self.limit, is_lenient)
 
     def find_lines(self):
         """Finds the points that would clear the secret, each with the mask of the bits that are left there. Code and
         base registers are cleared where their bits come from."""
-        cut = self.cut.migrated()
-        cut.version, cut.points = self.cut.version, dict(self.cut.points)
-        self.lines = self.first_lines(self.run)
+        cut, self.lines = self.widened(), self.first_lines(self.run)
         for _ in range(len(self.program.addresses())):
             lenient = self.traced(cut, MOST_BUDGET, True)
             more = list(lenient.clearing.decided.items()) or self.first_lines(lenient)
             for point, mask in more:
-                cut.points[point] = [], [(1, mask | self.listed(point, cut))]
+                cut.points[point] = [], [(1, mask | listed(point, cut))]
             if not more or lenient.why is None:
                 break
         self.wider, self.whole = cut, self.found(cut, MOST_BUDGET)
-
-    @staticmethod
-    def listed(point, cut):
-        """All bits that a cut lets cross at a point."""
-        masks = 0
-        for _, mask in sum(cut.points.get(point, ([], [])), []):
-            masks |= mask
-        return masks
 
     @staticmethod
     def first_lines(run):

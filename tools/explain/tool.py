@@ -4,13 +4,13 @@ import os
 import signal
 import subprocess
 import sys
+import tempfile
 import textwrap
 
 from built_program import program_words
 from elf_symbols import ProgramFile
 from refusals import program_fault
 from run_facts import Unusable, read
-
 
 WIDTH = 115
 
@@ -70,6 +70,15 @@ def write_text(name, text):
             out.write(text)
     except OSError as fault:
         raise Unusable(f"{name}: {fault.strerror}; it is not written") from None
+
+
+@contextlib.contextmanager
+def text_file(text, suffix=""):
+    """The name of a file that has a text, for a while."""
+    with tempfile.NamedTemporaryFile("w", suffix=suffix) as file:
+        file.write(text)
+        file.flush()
+        yield file.name
 
 
 def counted(number, word):

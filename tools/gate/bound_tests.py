@@ -25,9 +25,9 @@ TOOLS = os.path.dirname(os.path.dirname(os.path.abspath(__file__)))
 sys.path[:0] = [os.path.join(TOOLS, name) for name in ("", "explain", "model", "guests")]
 
 from answering import Program
+from bound_trials import bound_trial
 from bound_words import bounded_lines, unclear_lines
 from bounding import Bounding, NoBound, found
-from bound_trials import bound_trial
 from cuts import read_cut
 from elf_symbols import ProgramFile
 from guest_folder import GuestFolder

@@ -74,6 +74,7 @@ def contracts(revision):
 
 
 def main():
+    """Prints the contracts, or what differs."""
     parser = argparse.ArgumentParser(description=__doc__)
     parser.add_argument("revision", nargs="?")
     parser.add_argument("--against")

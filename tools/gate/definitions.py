@@ -224,11 +224,13 @@ class Crates:
 
 
 def lines_of(one):
+    """How many lines a definition has."""
     first, last = one[0].heads[one[1]]
     return last - first
 
 
 def told(some, kind):
+    """How many definitions of a kind there are, in how many files and lines."""
     return f"{len(some):,} {kind}, {len({one[0].path for one in some})} files, {sum(map(lines_of, some)):,} lines"
 
 

@@ -17,8 +17,9 @@ TOOLS = os.path.dirname(os.path.dirname(os.path.abspath(__file__)))
 sys.path[:0] = [os.path.join(TOOLS, name) for name in ("explain", "model", "guests")]
 
 from answering import Program
+from expecting import compilers
 from guest_folder import GuestFolder
-from picture_tests import compilers, output
+from picture_tests import output
 
 OTHERS = 20
 GUESSES = ["tortilla", "tortoise", "tomatoes", "password", "topazes.", "tortilly"]

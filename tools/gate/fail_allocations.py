@@ -174,6 +174,7 @@ def same_number(executable, folder, shim):
 
 
 def main():
+    """Tries every command line; the status, 1 where one goes wrong."""
     parser = argparse.ArgumentParser(description=__doc__, formatter_class=argparse.RawDescriptionHelpFormatter)
     parser.add_argument("executable", metavar="EXECUTABLE", help="the built program")
     words = parser.parse_args()

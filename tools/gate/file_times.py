@@ -93,6 +93,7 @@ def words_of(parser):
 
 
 def main():
+    """Prints the seconds of each file of a crate, or, where none is named, of what runs."""
     parser = argparse.ArgumentParser(description=__doc__, formatter_class=argparse.RawDescriptionHelpFormatter)
     crate, least, is_kept = words_of(parser)
     if crate is None:

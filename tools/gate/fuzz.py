@@ -35,7 +35,7 @@ from program_files import packed, plain_file  # noqa: E402
 from put_rows import parts_of  # noqa: E402
 from refusals import program_fault  # noqa: E402
 from trials import random_trial  # noqa: E402
-from words import LOAD, JALR, ECALL, immediate_word, store_word, upper_word  # noqa: E402
+from words import ECALL, JALR, LOAD, immediate_word, store_word, upper_word  # noqa: E402
 
 SECONDS, TURNS = 120, 400
 MODEL_SECONDS, MODEL_BYTES = 30, 2_000_000_000
@@ -307,6 +307,7 @@ class Program:
 
 
 def main():
+    """Tries spoilt files for so many minutes; the status, 1 where an answer is wrong."""
     parser = argparse.ArgumentParser(description=__doc__, formatter_class=argparse.RawDescriptionHelpFormatter)
     parser.add_argument("executable", type=os.path.abspath)
     parser.add_argument("--minutes", type=float, default=10)

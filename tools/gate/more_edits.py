@@ -77,6 +77,7 @@ def copy_to(room, crates):
 
 
 def main():
+    """Looks whether the edits apply, and tries them; the status."""
     parser = argparse.ArgumentParser(description=__doc__, formatter_class=argparse.RawDescriptionHelpFormatter)
     parser.add_argument("crates", metavar="CRATE", nargs="*")
     parser.add_argument("--look", action="store_true", help="prove nothing, and say which edits no longer apply")

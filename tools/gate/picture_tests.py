@@ -8,13 +8,13 @@ to the cut and to what is seen, and the pages of random secrets must tell the ve
 spoilt at random must be refused as the model refuses them. Where there is Chromium no page may be wider than a window
 of 1280 or 390 pixels. FLOWCHECK, or the option, is the program; without it the built one is taken, else the model."""
 import argparse
+import collections
 import json
 import os
 import random
 import re
 import subprocess
 import sys
-import tempfile
 
 TOOLS = os.path.dirname(os.path.dirname(os.path.abspath(__file__)))
 sys.path[:0] = [TOOLS, os.path.join(TOOLS, "guests")]
@@ -30,6 +30,7 @@ from cuts import places_of, read_cut
 from decision_tree import GraphLines, Leaf
 from document import html_page, text_page
 from elf_symbols import ProgramFile
+from expecting import Expectations, compilers, run_all
 from faults_of_text import cut_text_fault, regions_text_fault
 from graph_picture import WIDE, GraphPicture
 from guest_folder import GuestFolder
@@ -99,19 +100,23 @@ int main(void) {
 LINES = "spread.c:9-11"
 
 
-class Tests(GuestFolder):
+def taint_words(seed):
+    """The files of a trial of `taint`, and its words."""
+    files, words, rules = taint_trial(seed)
+    return files, words + rules
+
+
+class Tests(GuestFolder, Expectations):
     """The tests, with a folder for files and the pages that a window is asked about."""
 
     def __init__(self, folder, program, count):
-        super().__init__(folder)
-        self.program, self.count, self.wrongs, self.pages, self.done = program, count, [], [], {}
+        Expectations.__init__(self, folder)
+        self.program, self.count, self.pages, self.shown = program, count, [], collections.Counter()
 
-    def expect(self, what, is_right, detail=""):
-        """Counts a test, and notes it where it fails."""
-        kind = what.split(":")[0]
-        self.done[kind] = self.done.get(kind, 0) + 1
-        if not is_right:
-            self.wrongs.append(f"{what} {detail}")
+    def count_one(self, kind):
+        """Counts one of a kind; how many there are."""
+        self.counts[kind] = self.counts.get(kind, 0) + 1
+        return self.counts[kind]
 
     def write_all(self, files):
         """Writes files into the folder."""
@@ -165,29 +170,42 @@ class Tests(GuestFolder):
             if seed % 20 == 0:
                 self.pages.append((f"seed {seed}", page))
 
-    def test_rejections(self):
-        """Pages of random checks: the verdict and the place must be those of `check`."""
+    def judge_random(self, trial_of, judge):
+        """Judges the secrets of random trials, each by the words of its command."""
         for seed in range(1, self.count + 1):
-            files, words = random_trial(seed)
+            files, words = trial_of(seed)
             self.write_all(files)
             budget = next(word for word in words[3:] if word.isdigit())
-            options = dict(re.findall(r"--(turns|regions)[= ](\S+)", " ".join(words)))
+            options = dict(re.findall(r"--(turns|regions|rules)[= ](\S+)", " ".join(words)))
             options = {name: self.path(value) if name == "regions" else value for name, value in options.items()}
             for name in [word for word in words if word.startswith("secret")]:
-                self.rejection(f"seed {seed} {name}", budget, self.path(name), options)
+                judge(f"seed {seed} {name}", budget, self.path(name), options)
 
-    def rejection(self, what, budget, secret, options):
-        """Makes the page of one check."""
-        flat = [word for name, value in options.items() for word in (f"--{name}", value)]
+    def judged(self, name, make, page_of, what, budget, secret, options):
+        """Makes the page of one secret: what was seen, its kind, and the page as a text."""
+        flat = [word for option, value in options.items() for word in (f"--{option}", value)]
         program = ProgramFile(read(self.path("program")))
         inputs = Inputs(self.path("program"), self.path("public"), secret, flat)
-        seen = Rejection(Program(self.program), inputs, self.path("cut"), budget, program)
-        title, sections = rejection_page(seen, program, Places(self.path("program"), program))
+        seen = make(Program(self.program), inputs, self.path("cut"), budget, program)
+        title, sections = page_of(seen, program, Places(self.path("program"), program))
         text, page = text_page(title, sections), html_page(title, sections)
         is_told = seen.line == seen.model_line and "".join(seen.line.split()) in "".join(text.split())
-        self.expect(f"checks: {what}", is_told, f"{seen.line} | {seen.model_line}")
-        kind = "accepted" if seen.is_accepted else seen.reason.split(" ")[0]
-        self.done[f"checks told: {kind}"] = self.done.get(f"checks told: {kind}", 0) + 1
+        self.expect(f"{name}: {what}", is_told, f"{seen.line} | {seen.model_line}")
+        word = seen.model_line.split()[0]
+        kind = word if word in ("accepted", "clean") else seen.reason.split(" ")[0]
+        self.count_one(f"{name} told: {kind}")
+        self.shown[name, kind] += 1
+        if self.shown[name, kind] <= 2:
+            self.pages.append((f"{'taint ' * (name == 'taints')}{what}", page))
+        return seen, kind, text
+
+    def test_rejections(self):
+        """Pages of random checks: the verdict and the place must be those of `check`."""
+        self.judge_random(random_trial, self.rejection)
+
+    def rejection(self, what, *named):
+        """Makes the page of one check."""
+        seen, kind, _ = self.judged("checks", Rejection, rejection_page, what, *named)
         marks = re.fullmatch(r"parted real (.*) replay (.*)", seen.reason)
         if marks:
             self.expect(f"places: {what}", seen.lockstep.marks() == marks.groups(), seen.reason)
@@ -195,34 +213,15 @@ class Tests(GuestFolder):
             differing = [passed for passed in seen.lockstep.passed if passed.differs()]
             self.expect(f"differences: {what}", bool(differing or len(seen.lockstep.passed) > 0), seen.reason)
             self.expect(f"covers: {what}", bool(seen.covers), seen.reason)
-        if self.done.get(f"shown {kind}", 0) < 2:
-            self.done[f"shown {kind}"] = self.done.get(f"shown {kind}", 0) + 1
-            self.pages.append((what, page))
 
     def test_taints(self):
         """Pages of random checks with one machine: the finding must be that of `taint`, and what is left must be shown
         and be cleared by the lines that are named."""
-        for seed in range(1, self.count + 1):
-            files, words, rules = taint_trial(seed)
-            self.write_all(files)
-            budget = next(word for word in words[3:] if word.isdigit())
-            options = dict(re.findall(r"--(turns|regions|rules)[= ](\S+)", " ".join(words + rules)))
-            options = {name: self.path(value) if name == "regions" else value for name, value in options.items()}
-            for name in [word for word in words if word.startswith("secret")]:
-                self.finding(f"seed {seed} {name}", budget, self.path(name), options)
+        self.judge_random(taint_words, self.finding)
 
-    def finding(self, what, budget, secret, options):
+    def finding(self, what, *named):
         """Makes the page of one check with one machine."""
-        flat = [word for name, value in options.items() for word in (f"--{name}", value)]
-        program = ProgramFile(read(self.path("program")))
-        inputs = Inputs(self.path("program"), self.path("public"), secret, flat)
-        seen = Tainting(Program(self.program), inputs, self.path("cut"), budget, program)
-        title, sections = taint_page(seen, program, Places(self.path("program"), program))
-        text, page = text_page(title, sections), html_page(title, sections)
-        is_told = seen.line == seen.model_line and "".join(seen.line.split()) in "".join(text.split())
-        self.expect(f"taints: {what}", is_told, f"{seen.line} | {seen.model_line}")
-        kind = "clean" if seen.is_clean else seen.reason.split(" ")[0]
-        self.done[f"taints told: {kind}"] = self.done.get(f"taints told: {kind}", 0) + 1
+        seen, kind, text = self.judged("taints", Tainting, taint_page, what, *named)
         if kind == "left":
             (point, mask), = seen.lines
             line = f"point {point[0]} 0x{point[1]:08x} {point[2]} rest 0x{mask:08x}"
@@ -230,9 +229,6 @@ class Tests(GuestFolder):
         if kind in ("left", "secret-code") or " base " in seen.reason:
             is_cleared = not seen.whole.text.startswith(("left", "secret-code")) and " base " not in seen.whole.text
             self.expect(f"lines that clear: {what} whole", is_cleared, seen.whole.text)
-        if self.done.get(f"shown taint {kind}", 0) < 2:
-            self.done[f"shown taint {kind}"] = self.done.get(f"shown taint {kind}", 0) + 1
-            self.pages.append((f"taint {what}", page))
 
     def test_bounds(self):
         """Pages of random bounds: the line must be that of `bound`, and the outputs as many as its list has."""
@@ -275,8 +271,7 @@ class Tests(GuestFolder):
                 is_drawn = len(drawn) == states and set(drawn) == numbers
                 self.expect(f"graphs drawn: {what}", is_drawn, f"{drawn} of {states}")
         kind = "unclear" if seen.walk else "bounded"
-        self.done[f"bounds told: {kind}"] = self.done.get(f"bounds told: {kind}", 0) + 1
-        if self.done[f"bounds told: {kind}"] <= 3:
+        if self.count_one(f"bounds told: {kind}") <= 3:
             self.pages.append((f"bound {what}", page))
 
     def are_led(self, seen):
@@ -481,15 +476,6 @@ def bits_in(chosen, choices):
     return len(wanted) if choices[: len(wanted)] == wanted else 0
 
 
-def compilers():
-    """The compilers that are there."""
-    found = []
-    for name, command in (("gcc", "riscv64-unknown-elf-gcc"), ("clang", "ld.lld")):
-        if any(os.access(os.path.join(folder, command), os.X_OK) for folder in os.environ["PATH"].split(os.pathsep)):
-            found.append(name)
-    return found
-
-
 def output(script, *words):
     """The status of a script and what it prints."""
     command = [sys.executable, os.path.join(TOOLS, script), *words]
@@ -528,14 +514,7 @@ def main():
     parser.add_argument("--count", type=int, default=100)
     parser.add_argument("--flowcheck", default=os.environ.get("FLOWCHECK"))
     words = parser.parse_args()
-    with tempfile.TemporaryDirectory(prefix="picture-") as folder:
-        tests = Tests(folder, words.flowcheck, words.count)
-        for name in [name for name in dir(Tests) if name.startswith("test_") and name != "test_windows"]:
-            getattr(tests, name)()
-        tests.test_windows()
-    print(", ".join(f"{count} {kind}" for kind, count in tests.done.items() if not kind.startswith("shown")))
-    print("\n".join(tests.wrongs) or "all right")
-    return 1 if tests.wrongs else 0
+    return run_all(Tests, words.flowcheck, words.count)
 
 
 if __name__ == "__main__":

@@ -22,6 +22,7 @@ from make_certificate_rows import LIMIT, judge, read  # noqa: E402
 
 
 def network(points, relays, links):
+    """A graph as networkx has it."""
     graph = networkx.DiGraph()
     graph.add_nodes_from(["source", "sink"])
     for i, capacity in enumerate(points):
@@ -35,10 +36,12 @@ def network(points, relays, links):
 
 
 def name(end):
+    """How an end of a link is written."""
     return {0: "source", 1: f"p{end[1]}", 2: f"r{end[1]}", 3: "sink"}[end[0]]
 
 
 def node(end, leaving):
+    """The node of an end of a link that leaves it or comes to it."""
     if end[0] == 1:
         return ("out" if leaving else "in", end[1])
     return {0: "source", 2: ("r", end[1]), 3: "sink"}[end[0]]
@@ -83,12 +86,14 @@ def changed(chance, text):
 
 
 def is_right(text, value):
+    """Whether the value of a certificate is the greatest flow of its graph, by networkx."""
     points, relays, links, _ = read(text)
     graph = network([capacity for _, capacity, _, _ in points], relays, [link for link, *_ in links])
     return networkx.maximum_flow_value(graph, "source", "sink") == value
 
 
 def main():
+    """Tries random certificates, and changed ones."""
     parser = argparse.ArgumentParser(description=__doc__, formatter_class=argparse.RawDescriptionHelpFormatter)
     parser.add_argument("program", metavar="PROGRAM", help="the built program file_rows")
     parser.add_argument("trials", metavar="TRIALS", type=int, nargs="?", default=2000)

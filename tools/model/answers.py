@@ -101,15 +101,22 @@ def require(form, fault):
         raise Ended(3, f"refused 3 {form} {fault}\n")
 
 
-def run_parts(files, plain, options):
-    """What the runs of `measure` and the like are made of: image, public input, secrets, regions, table and limit."""
-    program, public, *secrets = plain
-    regions = options.get("--regions")
-    loads = [(program, PROGRAM), (public, PUBLIC), *([(regions, REGIONS)] if regions else [])]
+def listed_regions(files, program, public, regions, secrets=(), cut=None):
+    """Loads what a command names: program, public input, cut, regions and secrets. Ends where one is not there, or has
+    a fault; then the regions, none where no file of them is named."""
+    loads = [(program, PROGRAM), (public, PUBLIC)] + [(cut, TEXT)] * (cut is not None)
+    loads += [(regions, REGIONS)] * (regions is not None)
     load(files, loads + [(secret, SECRET) for secret in secrets])
     require("program", program_fault(files[program]))
     require("regions", regions and regions_fault(files[regions]))
-    listed = read_regions(files[regions]) if regions else []
+    require("cut", cut and cut_fault(files[cut]))
+    return read_regions(files[regions]) if regions else []
+
+
+def run_parts(files, plain, options):
+    """What the runs of `measure` and the like are made of: image, public input, secrets, regions, table and limit."""
+    program, public, *secrets = plain
+    listed = listed_regions(files, program, public, options.get("--regions"), secrets)
     table, limit = int(options.get("--rules", 1)), int(options.get("--turns", USUAL_TURNS))
     return Image(files[program]), files[public], [files[secret] for secret in secrets], listed, table, limit
 
@@ -149,12 +156,7 @@ def cut_text(measured, options):
 def checked_of(files, words, plain, options):
     """What `check` and `taint` look at."""
     program, public, cut, _, *secrets = plain
-    regions = options.get("--regions")
-    loads = [(program, PROGRAM), (public, PUBLIC), (cut, TEXT), *([(regions, REGIONS)] if regions else [])]
-    load(files, loads + [(secret, SECRET) for secret in secrets])
-    require("program", program_fault(files[program]))
-    require("regions", regions and regions_fault(files[regions]))
-    require("cut", cut_fault(files[cut]))
+    listed_regions(files, program, public, options.get("--regions"), secrets, cut)
     return Command(files, words[1:])
 
 
@@ -174,10 +176,7 @@ def findings_of(files, words, plain, options):
 def learn_answer(files, plain, options):
     """The answer of `learn`."""
     program, public, secret, regions = plain
-    load(files, [(program, PROGRAM), (public, PUBLIC), (regions, REGIONS), (secret, SECRET)])
-    require("program", program_fault(files[program]))
-    require("regions", regions_fault(files[regions]))
-    listed, limit = read_regions(files[regions]), int(options.get("--turns", USUAL_TURNS))
+    listed, limit = listed_regions(files, program, public, regions, [secret]), int(options.get("--turns", USUAL_TURNS))
     try:
         return 0, regions_text(learn(Image(files[program]), files[public], files[secret], listed, limit))
     except NotLearnt as fault:
@@ -187,12 +186,7 @@ def learn_answer(files, plain, options):
 def bound_answer(files, plain, options):
     """The answer of `bound`."""
     program, public, cut, budget = plain
-    regions = options.get("--regions")
-    load(files, [(program, PROGRAM), (public, PUBLIC), (cut, TEXT), *([(regions, REGIONS)] if regions else [])])
-    require("program", program_fault(files[program]))
-    require("regions", regions and regions_fault(files[regions]))
-    require("cut", cut_fault(files[cut]))
-    listed = read_regions(files[regions]) if regions else []
+    listed = listed_regions(files, program, public, options.get("--regions"), cut=cut)
     numbers = (("--rules", 1), ("--turns", USUAL_TURNS), ("--paths", USUAL_PATHS))
     table, turns, paths = (int(options.get(*number)) for number in numbers)
     limits = int(budget), turns, paths, "--any-public" in options

@@ -10,8 +10,7 @@ a state all of whose paths are known, and as many turns and bits are left as the
 import collections
 
 from cuts import VisitMasks, places_of, slot_width
-from guest import BREAK, EXIT, EXIT_GROUP, READ, SECRET, WRITE
-from guest import GuestExit, GuestFault, ReplayGuest, ReplayStop, shown
+from guest import BREAK, EXIT, EXIT_GROUP, READ, SECRET, WRITE, GuestExit, GuestFault, ReplayGuest, ReplayStop, shown
 from instructions import ALL, WIDTHS, decode
 from rules import loaded_mask, result_mask
 from states import Below, Known, Place, copied, fits, meetings_of, repeating

@@ -2,8 +2,7 @@
 from forks import Forks
 from instructions import ALL
 from pieces import BRANCH_FORMS, DATA, LOAD_FORMS, STORE_FORMS, WRITE
-from words import ADD, AND, AUIPC, ECALL, JALR, LOAD
-from words import immediate_word, jump_word, register_word, store_word, upper_word
+from words import ADD, AND, AUIPC, ECALL, JALR, LOAD, immediate_word, jump_word, register_word, store_word, upper_word
 
 STACK, AGAIN, MASK, POINTER, LEFT, TAKEN = 2, 22, 23, 24, 25, 26
 SHOWN, STRETCHES = 32, 4

@@ -4,7 +4,7 @@ import random
 from guest import Image
 from programs import carrying_program, forked_program, random_bytes, random_program, usual_program
 from trial_cuts import random_cut, with_patterns
-from trial_regions import region_file, random_regions
+from trial_regions import random_regions, region_file
 from verdicts import MOST_BUDGET, USUAL_TURNS, judge, real_run
 
 TRIED_TURNS, LONG_OUTPUT = 3000, 5000

@@ -14,9 +14,8 @@ from rules import CLASSES, TABLE_1, TABLE_2
 
 MOST_TURNS, MOST_FILE = 5000, 65_536
 # what is replaced, for the wrong methods that go on with it
-right_add, right_graph, right_look, right_cut = Passings.add, Passings.graph, MeasuredRun.look_at_bases, Measured.cut
-right_load, right_branch, right_leave, right_call = Labels.load, Labels.branch, Labels.leave, Labels.call
-right_look_at_code, right_turn, right_set = MeasuredRun.look_at_code, MeasuredRun.make_turn, Labels.set_register
+right_add, right_leave, right_call, right_cut = Passings.add, Labels.leave, Labels.call, Measured.cut
+right_look, right_look_at_code = MeasuredRun.look_at_bases, MeasuredRun.look_at_code
 
 
 def add_without(left_out):

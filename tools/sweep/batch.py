@@ -32,10 +32,12 @@ class OtherBytes(Exception):
 
 
 def digest(content):
+    """The SHA-256 of bytes, in hexadecimal."""
     return hashlib.sha256(content).hexdigest()
 
 
 def read(path):
+    """The bytes of a file."""
     with open(path, "rb") as file:
         return file.read()
 
@@ -54,6 +56,7 @@ def secrets_of(batch):
 
 
 def cut_in(items, size):
+    """Items in pieces of a size."""
     return [items[at : at + size] for at in range(0, len(items), size)]
 
 
@@ -150,6 +153,7 @@ def caller(source, scratch, under):
 
 
 def how_it_died(status, text):
+    """How a call ended that has no whole answer, in words."""
     first = text.splitlines()[0][:200] if text else ""
     if status is None:
         return f"could not be started: {first}"
@@ -167,6 +171,7 @@ def run(folder, number, check, manifest, identity):
 
 
 def main():
+    """Makes the batches that are named; the status."""
     if len(sys.argv) < 3:
         print(__doc__, file=sys.stderr)
         return 2

@@ -17,16 +17,19 @@ import time
 
 import one_node
 import two_hosts
-from tests import HERE, SWEEP, TOP, hashes
+from tests import SWEEP, TOP, hashes
 
 PROGRAM = [TOP / "crates/machine_rows/data/pin-gcc.elf", TOP / "examples/guests/typed", TOP / "examples/guests/cut", "3"]
 
 
 def files_in(folder):
+    """How many files a folder has, none where it is not there."""
     return len(os.listdir(folder)) if folder.exists() else 0
 
 
 class Comparison:
+    """A sweep of the PINs by one engine after another, whose results must be alike."""
+
     def __init__(self, flowcheck, pins, folder):
         self.flowcheck, self.folder = flowcheck, folder
         self.wanted = None
@@ -102,6 +105,7 @@ class Comparison:
 
 
 def main():
+    """Compares the engines; the status, 1 where results differ."""
     parser = argparse.ArgumentParser(description=__doc__, formatter_class=argparse.RawDescriptionHelpFormatter)
     parser.add_argument("flowcheck", type=pathlib.Path)
     parser.add_argument("--pins", type=int, default=10_000)

@@ -22,11 +22,13 @@ MOST_TOLD, MOST_SHOWN = 10, 40
 
 
 def accepted_rows(results):
+    """The rows of the accepted secrets of a sweep."""
     with open(results / "verdicts.csv", newline="", encoding="utf-8") as file:
         return [row for row in csv.DictReader(file) if row["verdict"] == "accepted"]
 
 
 def crossing_of(row):
+    """The bits that crossed, of a row."""
     return row["bits"], row["crossing"]
 
 
@@ -89,6 +91,7 @@ def compare(results, rows, program):
 
 
 def main():
+    """Compares outputs with crossings; the status, 1 where some contradict."""
     parser = argparse.ArgumentParser(description=__doc__, formatter_class=argparse.RawDescriptionHelpFormatter)
     parser.add_argument("results", type=pathlib.Path)
     parser.add_argument("--count", type=int, default=1000)

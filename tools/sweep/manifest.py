@@ -20,6 +20,7 @@ FEWEST_CALLS, MOST_CALLS, SPREAD = 4, 16, 32
 
 
 def text_of(value):
+    """The bytes of a value as JSON."""
     return (json.dumps(value, indent=2, sort_keys=True) + "\n").encode()
 
 
@@ -92,6 +93,7 @@ class Sweep:
 
 
 def put_new(path, content):
+    """Writes a file, if it has not these bytes already."""
     if not os.path.exists(path) or read(path) != content:
         put(path, content)
 

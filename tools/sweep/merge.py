@@ -37,6 +37,7 @@ def answer_of(folder, number, sweep):
 
 
 def is_judged(answer):
+    """Whether an answer is there and none of its calls died."""
     return answer is not None and not any("died" in call for call in answer["calls"])
 
 
@@ -149,6 +150,7 @@ def printable(name):
 
 
 def power(budget):
+    """The outputs that a budget allows, in words."""
     return f"2^{budget} = {1 << budget}" if budget <= 40 else f"2^{budget}"
 
 
@@ -181,6 +183,7 @@ def report_of(merged):
 
 
 def digest_of_file(path):
+    """The SHA-256 of a file, in hexadecimal."""
     found = hashlib.sha256()
     with open(path, "rb") as file:
         while part := file.read(1 << 20):
@@ -189,6 +192,7 @@ def digest_of_file(path):
 
 
 def table(head, rows):
+    """A table as bytes of CSV."""
     text = io.StringIO()
     writer = csv.writer(text, lineterminator="\n")
     writer.writerow(head)

@@ -52,6 +52,7 @@ def what_is_missing():
 
 
 def write_configuration(folder, processors, most):
+    """Writes the key and the configuration of a cluster."""
     for part in ("state", "spool"):
         (folder / part).mkdir()
     (folder / "munge.key").write_bytes(os.urandom(1024))
@@ -62,11 +63,13 @@ def write_configuration(folder, processors, most):
 
 
 def munge_words(folder):
+    """The command that starts munge for a cluster."""
     return ["munged", "--foreground", "--force", f"--socket={folder}/munge.socket", f"--key-file={folder}/munge.key",
             f"--pid-file={folder}/munge.pid", f"--log-file={folder}/munge.log", f"--seed-file={folder}/munge.seed"]
 
 
 def wait_until(is_so, what):
+    """Waits until something is so, at most a minute."""
     for _ in range(300):
         if is_so():
             return
@@ -75,6 +78,7 @@ def wait_until(is_so, what):
 
 
 def is_idle(environment):
+    """Whether the node waits for work."""
     told = subprocess.run(["sinfo", "-h", "-o", "%t"], env=environment, capture_output=True, text=True)
     return told.stdout.strip() == "idle"
 
@@ -106,6 +110,7 @@ def one_node(processors=1, most=1001):
 
 
 def main():
+    """Runs a command with a cluster; its status."""
     parser = argparse.ArgumentParser(description=__doc__, formatter_class=argparse.RawDescriptionHelpFormatter)
     parser.add_argument("command", metavar="COMMAND")
     parser.add_argument("words", metavar="WORD", nargs=argparse.REMAINDER)

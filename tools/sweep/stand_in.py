@@ -33,6 +33,7 @@ secret-length cut 4 got 3""".split("\n")
 
 
 def is_first(secret):
+    """Whether a secret is asked about for the first time."""
     mark = os.path.join(os.environ["STAND_IN"], secret.hex())
     if os.path.exists(mark):
         return False
@@ -41,6 +42,7 @@ def is_first(secret):
 
 
 def die(secret):
+    """Ends the process as the third byte of a secret says."""
     kind = secret[2] if len(secret) > 2 else 0
     if kind == 2 or kind == 1 and is_first(secret):
         os.kill(os.getpid(), signal.SIGKILL)
@@ -52,6 +54,7 @@ def die(secret):
 
 
 def verdict(secret, budget, public):
+    """The line of a secret, without its number."""
     if len(secret) > 1 and secret[1]:
         return f"rejected {{}} {REASONS[(secret[1] - 1) % len(REASONS)]}"
     first = secret[0] if secret else 0
@@ -82,6 +85,7 @@ def bound(words):
 
 
 def main():
+    """Answers as `check` or `bound` does; the status."""
     words = [word for word in sys.argv[2:]]
     if sys.argv[1] == "bound":
         return bound(words)

@@ -30,6 +30,7 @@ BUILT = None
 
 
 def hashes(folder):
+    """The hashes of the files of results, by name."""
     return {name: hashlib.sha256((folder / name).read_bytes()).hexdigest() for name in RESULTS}
 
 
@@ -74,6 +75,8 @@ class Sweeps(unittest.TestCase):
 
 
 class Verdicts(Sweeps):
+    """What is counted of verdicts and reasons."""
+
     def test_each_verdict_and_reason_is_counted(self):
         secrets = [bytes([i % 8, 0, 0, i % 256]) for i in range(100)]
         secrets += [bytes([0, 1 + i, 0]) for i in range(len(REASONS))]
@@ -116,6 +119,8 @@ class Verdicts(Sweeps):
 
 
 class Lists(Sweeps):
+    """Where secrets come from."""
+
     def test_a_folder_gives_its_files(self):
         (self.folder / "many").mkdir()
         for name, secret in [("b", b"\2"), ("a", b"\1"), ("odd\nname", b"\3")]:
@@ -165,6 +170,8 @@ class Lists(Sweeps):
 
 
 class Manifests(Sweeps):
+    """What may not change between a sweep and its resumption."""
+
     def setUp(self):
         super().setUp()
         self.put("regions", b"regions")
@@ -270,6 +277,8 @@ class Manifests(Sweeps):
 
 
 class Deaths(Sweeps):
+    """Calls and batches that die."""
+
     def put_many(self, **kinds):
         secrets = [bytes([i % 16, 0, 0, i // 256, i % 256]) for i in range(640)]
         for at, kind in kinds.items():

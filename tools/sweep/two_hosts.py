@@ -39,10 +39,12 @@ LogLevel ERROR
 
 
 def do(*words):
+    """Runs a command, which must succeed."""
     subprocess.run(words, check=True, stdout=subprocess.DEVNULL)
 
 
 def address_of(index):
+    """The address of a host."""
     return f"{NET}.{11 + index}"
 
 
@@ -56,6 +58,7 @@ def what_is_missing():
 
 
 def make_net():
+    """Makes the network of the hosts."""
     do("ip", "link", "add", BRIDGE, "type", "bridge")
     do("ip", "address", "add", f"{NET}.1/24", "dev", BRIDGE)
     do("ip", "link", "set", BRIDGE, "up")
@@ -70,12 +73,14 @@ def make_net():
 
 
 def drop_net():
+    """Takes the network of the hosts away."""
     for name in HOSTS:
         subprocess.run(["ip", "netns", "delete", name], stderr=subprocess.DEVNULL)
     subprocess.run(["ip", "link", "delete", BRIDGE], stderr=subprocess.DEVNULL)
 
 
 def write_keys(folder):
+    """Writes the keys of the hosts and of who calls them."""
     for name in ("host_key", "key"):
         do("ssh-keygen", "-q", "-t", "ed25519", "-N", "", "-f", str(folder / name))
     public = " ".join((folder / "host_key.pub").read_text().split()[:2])
@@ -102,6 +107,7 @@ def serve(folder, index):
 
 
 def stop(begun):
+    """Ends a process, and waits for its end."""
     begun.terminate()
     begun.wait()
 

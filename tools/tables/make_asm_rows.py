@@ -195,6 +195,7 @@ def for_gnu(line):
 
 
 def run(*words):
+    """Runs a program of binutils, which must succeed."""
     subprocess.run([TOOLS + words[0], *map(str, words[1:])], check=True)
 
 
@@ -211,6 +212,7 @@ def words_of(source, folder):
 
 
 def main():
+    """Prints the rows."""
     with tempfile.TemporaryDirectory() as name:
         for source in [*instructions(), *programs()]:
             words = words_of(source, Path(name))

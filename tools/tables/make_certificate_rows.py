@@ -18,6 +18,7 @@ LINK = re.compile(rf"link (\S+) (\S+) flow {NUMBER}\Z")
 
 
 def slot_number(text):
+    """The place of a slot in the order of points; None where it is no slot."""
     if text in SLOTS:
         return 1 + SLOTS.index(text)
     found = re.match(rf"([xr]){NUMBER}\Z", text)
@@ -94,6 +95,7 @@ def read(text):
 
 
 def judge(text):
+    """What is said of a certificate: its value, or why it is refused."""
     parts = read(text)
     if isinstance(parts, int):
         return f"line {parts}"
@@ -187,6 +189,7 @@ def rows():
 
 
 def main():
+    """Writes the files, the rows and the answers."""
     folder = Path("crates/file_rows")
     names, answers = [], []
     for name, text in rows():

@@ -9,14 +9,17 @@ MASK = (1 << 64) - 1
 
 
 def following(state):
+    """The state of the generator behind a state."""
     return (state * 6364136223846793005 + 1442695040888963407) & MASK
 
 
 def below(state, bound):
+    """A number below a bound, made of a state."""
     return ((state >> 32) * bound) >> 32
 
 
 def event(state):
+    """The event that a state makes."""
     first, second = (state >> 40) % (1 << 24) % 8, (state >> 44) % (1 << 20) % 8
     region, kind = (state >> 48) % 3, (state >> 56) % 6
     if kind == 0:
@@ -53,6 +56,7 @@ def graph(events):
 
 
 def sums(lists):
+    """How many points, relays, links and bits the graphs of so many lists have together."""
     points = relays = links = bits = 0
     for seed in range(lists):
         state, events = seed, []

@@ -13,10 +13,12 @@ DATA = os.path.join(TOP, "crates", "machine_rows", "data")
 
 
 def input_of(word):
+    """The bytes of a word; a dash is none."""
     return b"" if word == "-" else word.encode()
 
 
 def reader_of(content):
+    """A pipe from which these bytes are read."""
     reader, writer = os.pipe()
     os.write(writer, content)
     os.close(writer)
@@ -24,12 +26,14 @@ def reader_of(content):
 
 
 def run(program, secret, public):
+    """The run of a guest by qemu."""
     os.dup2(reader_of(secret), 3)
     command = ["qemu-riscv32", os.path.join(DATA, program)]
     return subprocess.run(command, input=public, stdout=subprocess.PIPE, pass_fds=[3])
 
 
 def main():
+    """Prints what the guests of standard input write."""
     for line in sys.stdin:
         program, _cut, secret, public = line.split()
         ended = run(program, input_of(secret), input_of(public))

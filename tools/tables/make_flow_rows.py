@@ -36,14 +36,17 @@ def key(end):
 
 
 def leaving(end):
+    """The node that links from an end leave."""
     return end + ".out" if end[0] == "p" else end
 
 
 def entering(end):
+    """The node that links to an end come to."""
     return end + ".in" if end[0] == "p" else end
 
 
 def network(capacities, relays, links):
+    """A graph as networkx has it."""
     graph = networkx.DiGraph()
     graph.add_nodes_from([SOURCE, SINK])
     graph.add_nodes_from(relays)
@@ -56,6 +59,7 @@ def network(capacities, relays, links):
 
 
 def answer(capacities, relays, links):
+    """What must be printed of a graph: its value and its least minimum side."""
     graph = network(capacities, relays, links)
     residual = edmonds_karp(graph, SOURCE, SINK)
     value = residual.graph["flow_value"]
@@ -78,6 +82,7 @@ def answer(capacities, relays, links):
 
 
 def row(capacities, relays, links):
+    """The row of a graph, and what must be printed of it."""
     ordered = sorted(set(links), key=lambda link: (key(link[0]), key(link[1])))
     words = [str(capacity) for capacity in capacities] + relays + [f"{a}-{b}" for a, b in ordered]
     return " ".join(words), answer(capacities, relays, ordered)
@@ -101,12 +106,14 @@ def chosen(dice):
 
 
 def chain(count):
+    """So many points in a line."""
     points = [f"p{index}" for index in range(count)]
     links = [(SOURCE, points[0]), (points[-1], SINK)] + list(zip(points, points[1:]))
     return [3] * count, [], links
 
 
 def rows():
+    """All graphs, as rows."""
     join = [(SOURCE, "p0"), (SOURCE, "p1"), ("p0", "p2"), ("p1", "p2"), ("p2", SINK)]
     yield row([3, 2, 4], [], join)
     yield row([3, 2, 5], [], join)
@@ -120,6 +127,7 @@ def rows():
 
 
 def main():
+    """Writes the rows and the answers."""
     parser = argparse.ArgumentParser(description=__doc__, formatter_class=argparse.RawDescriptionHelpFormatter)
     parser.add_argument("folder", metavar="FOLDER", type=Path)
     folder = parser.parse_args().folder

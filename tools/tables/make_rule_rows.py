@@ -41,6 +41,7 @@ MASKS = (0, 1, 2, 0xF, 0x10, 0x20, 0x80, 0xF0, 0x80000000, 0xC0000000, 0x8000000
 
 
 def signed(word):
+    """A word as a signed number."""
     return word - (1 << 32) if word >> 31 else word
 
 
@@ -86,10 +87,12 @@ def total(t):
 
 
 def shifted(v2, m1, m2, shift):
+    """The mask of a shift by a number of places that may be secret."""
     return ALL if m2 & 31 else shift(m1, v2 & 31)
 
 
 def by_table(kind, v1, m1, v2, m2):
+    """The mask of a result by table 1."""
     t = m1 | m2
     if kind in ("Add", "Sub", "Mul"):
         return total(t)
@@ -113,6 +116,7 @@ def by_table(kind, v1, m1, v2, m2):
 
 
 def lowest(word):
+    """The lowest bit of a word."""
     return word & -word & ALL
 
 
@@ -122,6 +126,7 @@ def ordered(v1, m1, v2, m2):
 
 
 def by_narrow_table(kind, v1, m1, v2, m2):
+    """The mask of a result by table 2."""
     t = m1 | m2
     least1, least2, most1, most2 = v1 & ~m1 & ALL, v2 & ~m2 & ALL, v1 | m1, v2 | m2
     if kind == "Add":
@@ -169,6 +174,7 @@ WITHOUT_SIGNS = {"Mulh": "Mulhu", "Mulhsu": "Mulhu", "Div": "Divu", "Rem": "Remu
 
 
 def by_ranged_table(kind, v1, m1, v2, m2):
+    """The mask of a result by table 3."""
     least1, least2, most1, most2 = v1 & ~m1 & ALL, v2 & ~m2 & ALL, v1 | m1, v2 | m2
     if not m1 | m2:
         return 0
@@ -188,6 +194,7 @@ def by_ranged_table(kind, v1, m1, v2, m2):
 
 
 def by_widest_table(kind, v1, m1, v2, m2):
+    """The mask of a result by table 0."""
     return (ALL if m1 | m2 else 0) & (~1 if kind == "Target" else ALL)
 
 
@@ -207,6 +214,7 @@ def values(value, mask):
 
 
 def changed(kind, v1, m1, v2, m2):
+    """The bits of the result that change over all values of the secret bits."""
     bits = 0
     for operation in OPERATIONS[kind]:
         results = [operation(a, b) for a in values(v1, m1) for b in values(v2, m2)]
@@ -216,22 +224,27 @@ def changed(kind, v1, m1, v2, m2):
 
 
 def register_form(opcode, funct3, funct7):
+    """The word of an instruction with two registers."""
     return lambda imm: funct7 << 25 | 7 << 20 | 6 << 15 | funct3 << 12 | 5 << 7 | opcode
 
 
 def immediate_form(opcode, funct3):
+    """The word of an instruction with an immediate, by the immediate."""
     return lambda imm: (imm & 0xFFF) << 20 | 6 << 15 | funct3 << 12 | 5 << 7 | opcode
 
 
 def shift_form(funct3, funct7):
+    """The word of a shift by a number, by the number."""
     return lambda imm: funct7 << 25 | (imm & 31) << 20 | 6 << 15 | funct3 << 12 | 5 << 7 | 0x13
 
 
 def branch_form(funct3):
+    """The word of a branch."""
     return lambda imm: 7 << 20 | 6 << 15 | funct3 << 12 | 8 << 7 | 0x63
 
 
 def store_form(funct3):
+    """The word of a store, by its offset."""
     return lambda imm: (imm >> 5 & 0x7F) << 25 | 7 << 20 | 6 << 15 | funct3 << 12 | (imm & 31) << 7 | 0x23
 
 
@@ -323,6 +336,7 @@ WORKED = (
 
 
 def row(table, kind, case):
+    """Prints the row of a case."""
     _, v1, m1, v2, m2 = case
     bits = changed(kind, v1, m1, v2, m2)
     mask = TABLES[table](kind, v1, m1, v2, m2)
@@ -331,6 +345,7 @@ def row(table, kind, case):
 
 
 def worked_rows():
+    """Prints the rows that were worked out by hand."""
     for table, number, v1, m1, v2, m2, wanted in WORKED:
         kind, word, _ = INSTRUCTIONS[number]
         assert TABLES[table](kind, v1, m1, v2, m2) == wanted, (table, kind, v1, m1, v2, m2, wanted)
@@ -338,6 +353,7 @@ def worked_rows():
 
 
 def random_rows(choose, table, instruction, count):
+    """Prints so many random rows of an instruction."""
     kind, word, place = instruction
     seen = set()
     while len(seen) < count:
@@ -433,6 +449,7 @@ def compare(choose):
 
 
 def main():
+    """Prints the table, or compares the tables of rules."""
     parser = argparse.ArgumentParser(description=__doc__, formatter_class=argparse.RawDescriptionHelpFormatter)
     parser.add_argument("word", metavar="compare", nargs="?", choices=["compare"])
     choose = random.Random(20)

@@ -49,6 +49,7 @@ places = {"plain": PLAIN, "near": NEAR, "far": MIDDLE}
 
 
 def put(address, text):
+    """Places an instruction at an address."""
     assert address % 4 == 0 and BASE <= address < END and code.get(address, text) == text, (hex(address), text)
     code[address] = text
 
@@ -65,6 +66,7 @@ def case(text, x5=0, x6=0, x7=KEPT, address=BASE, before=0, area="plain", target
 
 
 def register_cases():
+    """Makes the cases of instructions with two registers."""
     for op in OPS:
         for x5 in EDGES:
             for x6 in EDGES:
@@ -79,6 +81,7 @@ def register_cases():
 
 
 def immediate_cases():
+    """Makes the cases of instructions with an immediate."""
     for op in IMMEDIATES:
         for immediate in [0, 1, -1, 2047, -2048, 1365, -1366]:
             for x5 in FEWER:
@@ -104,6 +107,7 @@ def window(address):
 
 
 def memory_cases():
+    """Makes the cases of loads and stores."""
     page = BASE + 4096
     for op, size in {**LOADS, **STORES}.items():
         is_load = op in LOADS
@@ -123,6 +127,7 @@ def memory_cases():
 
 
 def branch_cases():
+    """Makes the cases of branches."""
     for op in BRANCHES:
         for x5 in FEWER:
             for x6 in FEWER:
@@ -138,6 +143,7 @@ def branch_cases():
 
 
 def jump_cases():
+    """Makes the cases of jumps."""
     places["near"] += 0x4000 - places["near"] % 0x4000 + 0x1000
     for offset in [4, 8, 12, -4, -12, 2044, -2044, 2048, -2048, 4096, -4096]:
         places["near"] += 0x4000 - places["near"] % 0x4000 + 0x1000
@@ -160,6 +166,7 @@ def jump_cases():
 
 
 def program():
+    """The text of the assembler program."""
     lines = [".option norvc", ".option norelax"]
     lines += ['.section .low,"aw",@progbits', ".zero 0x2000", '.section .top,"aw",@progbits', ".zero 0x2000"]
     lines += ['.section .arena,"awx",@progbits']
@@ -241,6 +248,7 @@ fail:
 
 
 def run():
+    """What the program writes under qemu."""
     with tempfile.TemporaryDirectory() as folder:
         source, made, linked = (str(Path(folder) / name) for name in ["cases.s", "cases.o", "cases"])
         Path(source).write_text(program())
@@ -253,6 +261,7 @@ def run():
 
 
 def main():
+    """Prints the table."""
     register_cases()
     immediate_cases()
     memory_cases()
