@@ -1,22 +1,19 @@
 """Guests around a kept register that takes up a secret byte inside a region and is right again where that is left, with
 the answer of `bound` to each, worked out by hand."""
-import json
-
 from cuts import Cut
+from hand_made import ANSWER, BUFFER, exit_words, found, read_words, region_text, trial
 from program_files import BASE, plain_file
-from words import ADD, ECALL, LOAD, XOR, Writer, immediate_word, register_word
+from words import ADD, LOAD, XOR, Writer, immediate_word, register_word
 from worked_trial import number_word
 
-ANSWER, BUFFER, COUNT, NUMBER, KEPT, TAKEN, SPARE = 10, 11, 12, 17, 8, 6, 7
-BACK, DATA = (0x20, 0), 0x80
-FOUND = "bounded secret 1 regions {} paths {} stopped {} outputs {} bits {}\n"
+KEPT, TAKEN, SPARE = 8, 6, 7
+BACK = 0x20, 0
 
 
 def begin():
     """A guest that has read a secret byte into a register and holds 5 in another."""
     writer = Writer(None, BASE, 0)
-    writer.put(number_word(ANSWER, 3), DATA << 12 | BUFFER << 7 | 0x37, number_word(COUNT, 1), number_word(NUMBER, 63))
-    writer.put(ECALL, immediate_word(4, TAKEN, BUFFER, 0, LOAD), number_word(KEPT, 5))
+    writer.put(*read_words(1), immediate_word(4, TAKEN, BUFFER, 0, LOAD), number_word(KEPT, 5))
     return writer
 
 
@@ -27,7 +24,7 @@ def finish(writer):
     label = writer.put_branch(1, KEPT, SPARE)
     writer.put(number_word(ANSWER, 1))
     writer.place(label)
-    writer.put(number_word(NUMBER, 93), ECALL)
+    writer.put(*exit_words())
     return plain_file(writer.body()), decision
 
 
@@ -50,21 +47,6 @@ def secret_kept():
     return *finish(writer), enter, leave
 
 
-def region_text(enter, leave, outs, keep):
-    """A file of one region."""
-    region = {"id": 1, "enter": f"0x{enter:x}", "leave": f"0x{leave:x}", "outs": outs, "keep": keep}
-    return json.dumps({"regions": [region]}).encode()
-
-
-def trial(name, file, budget, regions, skip, points, text):
-    """A trial: its name, its files, its words and the answer."""
-    is_used = bool(regions)
-    files = {"program": file, "public": b"", "cut": Cut(1, budget, skip, points).text().encode()}
-    files |= {"regions": regions} if is_used else {}
-    words = ["bound", "program", "public", "cut", str(budget), "--paths=300", *["--regions=regions"] * is_used]
-    return name, files, words, text
-
-
 def kept_trials():
     """The trials."""
     trials = []
@@ -74,17 +56,18 @@ def kept_trials():
         left = f"unclear path - bits 0 left 0 0x{decision:08x} de mask 0x00000001\n"
         both = {(0, decision, "de"): ([], [(1, 1)])}
         trials += [
-            trial(f"kept-{name}", file, 0, kept, [], {}, FOUND.format(1, 1, 0, 1, 0)),
-            trial(f"kept-{name}-skipped", file, 0, kept, [1], {}, FOUND.format(1, 1, 0, 1, 0)),
-            trial(f"kept-{name}-as-output", file, 0, out, [], {}, left),
-            trial(f"kept-{name}-as-output-skipped", file, 0, out, [1], {}, left),
-            trial(f"kept-{name}-no-region", file, 0, None, [], {}, left),
-            trial(f"kept-{name}-decided", file, 1, None, [], both, FOUND.format(0, 2, 0, 2, 1)),
+            trial(f"kept-{name}", file, Cut(1, 0, [], {}), found(1, 1, 1, 0, regions=1), regions=kept),
+            trial(f"kept-{name}-skipped", file, Cut(1, 0, [1], {}), found(1, 1, 1, 0, regions=1), regions=kept),
+            trial(f"kept-{name}-as-output", file, Cut(1, 0, [], {}), left, regions=out),
+            trial(f"kept-{name}-as-output-skipped", file, Cut(1, 0, [1], {}), left, regions=out),
+            trial(f"kept-{name}-no-region", file, Cut(1, 0, [], {}), left),
+            trial(f"kept-{name}-decided", file, Cut(1, 1, [], both), found(1, 2, 2, 1)),
         ]
     file, decision, enter, leave = secret_kept()
     kept, inner = region_text(enter, leave, [], ["s0"]), {(1, enter, "rs"): ([], [(1, 255)])}
     left = f"unclear path 00 bits 8 left 0 0x{decision:08x} de mask 0x00000001\n"
-    trials.append(trial("kept-secret", file, 8, kept, [], inner, left))
+    trials.append(trial("kept-secret", file, Cut(1, 8, [], inner), left, regions=kept))
     before = {(0, enter - 4, "rs"): ([], [(1, 255)])}
-    trials.append(trial("kept-secret-crossed", file, 8, kept, [], before, FOUND.format(1, 256, 0, 2, 1)))
+    text = found(1, 256, 2, 1, regions=1)
+    trials.append(trial("kept-secret-crossed", file, Cut(1, 8, [], before), text, regions=kept))
     return trials

@@ -1,19 +1,17 @@
 """Guests that come to the same state on several paths, and such that only seem to: a loop that decides by each byte of
 the secret, with the answer of `bound` to each, worked out by hand; and random ones of the same kind."""
 from cuts import Cut
-from kept_guests import region_text
+from hand_made import ANSWER, BUFFER, COUNT, NUMBER, SECRET, exit_words, found, read_words, region_text, trial
 from program_files import BASE, plain_file
 from trial_cuts import joined
 from words import AND, EBREAK, ECALL, LOAD, XOR, Writer, immediate_word, jump_word, register_word, store_word
 from worked_trial import number_word
 
-ANSWER, BUFFER, COUNT, NUMBER = 10, 11, 12, 17
 TAKEN, PLACE, LAST, ONE, SUM, KEPT = 6, 7, 28, 29, 8, 9
-DATA, EQUAL, UNEQUAL = 0x80, 0, 1
+EQUAL, UNEQUAL = 0, 1
 NOTHING = immediate_word(0, 0, 0, 0)
 CLEAR = [number_word(register, 0) for register in (ANSWER, BUFFER, COUNT, NUMBER)]
 CROSSED = [register_word(AND, KEPT, TAKEN, ONE), number_word(KEPT, 0)]
-FOUND = "bounded secret {} regions 0 paths {} stopped {} outputs {} bits {}\n"
 
 
 class Loop:
@@ -21,12 +19,11 @@ class Loop:
     `taken` are the words behind the decision 0, and `behind` those after them and behind the decision 1; a byte is in
     TAKEN, its address in PLACE."""
 
-    def __init__(self, count, taken, behind=(), descriptor=3):
+    def __init__(self, count, taken, behind=(), descriptor=SECRET):
         writer = self.writer = Writer(None, BASE, 0)
         self.count = count
-        writer.put(number_word(ANSWER, descriptor), DATA << 12 | BUFFER << 7 | 0x37, number_word(COUNT, count))
-        writer.put(number_word(NUMBER, 63), ECALL, number_word(ONE, 1), immediate_word(0, PLACE, BUFFER, 0))
-        writer.put(immediate_word(0, LAST, BUFFER, count))
+        writer.put(*read_words(count, descriptor), number_word(ONE, 1))
+        writer.put(immediate_word(0, PLACE, BUFFER, 0), immediate_word(0, LAST, BUFFER, count))
         begin = writer.here
         writer.put(immediate_word(4, TAKEN, PLACE, 0, LOAD), register_word(AND, TAKEN, TAKEN, ONE))
         self.decision = writer.here
@@ -40,28 +37,22 @@ class Loop:
     def finish(self, *words):
         """The program file: it makes these words, and exits with the sum."""
         writer = self.writer
-        writer.put(*words, immediate_word(0, ANSWER, SUM, 0), number_word(NUMBER, 93), ECALL)
+        writer.put(*words, immediate_word(0, ANSWER, SUM, 0), *exit_words())
         return plain_file(writer.body())
 
     def point(self, masks=(), rest=1):
         """The point of the decision."""
         return {(0, self.decision, "de"): (list(masks), [(1, rest)])}
 
+    def trial(self, name, file, budget, text, *options, points=None):
+        """A trial with a budget, whose cut has some points, or that of the decision."""
+        return trial(name, file, Cut(self.count, budget, [], points or self.point()), text, *options)
+
 
 def shown_words():
     """Writes a zero at the place."""
     arguments = [number_word(ANSWER, 1), immediate_word(0, BUFFER, PLACE, 0), number_word(COUNT, 1)]
     return [store_word(0, PLACE, 0, 0), *arguments, number_word(NUMBER, 64), ECALL]
-
-
-def trial(name, loop, file, points, budget, text, *options, regions=None):
-    """A trial: its name, its files, its words and the answer. The loop, or a number, says how long the secret is."""
-    length = loop if isinstance(loop, int) else loop.count
-    files = {"program": file, "public": b"", "cut": Cut(length, budget, [], points).text().encode()}
-    files |= {"regions": regions} if regions else {}
-    options += () if any(word.startswith("--paths") for word in options) else ("--paths=300",)
-    words = ["bound", "program", "public", "cut", str(budget), *options, *["--regions=regions"] * bool(regions)]
-    return name, files, words, text
 
 
 def adding(number):
@@ -72,13 +63,13 @@ def adding(number):
 def sum_trials():
     """Sums of the decisions, by as many walks as it takes and by one state for a round; and 2^64 paths."""
     loop, many, stops = Loop(8, [adding(1)]), Loop(64, [NOTHING]), Loop(3, [NOTHING])
-    file, sums, most = loop.finish(), FOUND.format(8, 256, 0, 9, 4), "--paths=37"
+    file, sums, most = loop.finish(), found(8, 256, 9, 4), "--paths=37"
     return [
-        trial("met-sum", loop, file, loop.point(), 8, sums, most),
-        trial("met-sum-listed", loop, file, loop.point([(7, 1)]), 8, sums, most),
-        trial("met-sum-short", loop, file, loop.point(), 7, "unclear path 00 bits 8 budget 7 needed 8\n"),
-        trial("met-many", many, many.finish(), many.point(), 64, FOUND.format(64, "-", 0, 1, 0)),
-        trial("met-stops", stops, stops.finish(EBREAK), stops.point(), 3, FOUND.format(3, 8, 8, 0, 0)),
+        loop.trial("met-sum", file, 8, sums, most),
+        loop.trial("met-sum-listed", file, 8, sums, most, points=loop.point([(7, 1)])),
+        loop.trial("met-sum-short", file, 7, "unclear path 00 bits 8 budget 7 needed 8\n"),
+        many.trial("met-many", many.finish(), 64, found(64, "-", 1, 0)),
+        stops.trial("met-stops", stops.finish(EBREAK), 3, found(3, 8, 0, 0, stopped=8)),
     ]
 
 
@@ -91,29 +82,28 @@ def state_trials():
     written, visits = Loop(2, shown_words(), CLEAR), Loop(2, CROSSED)
     once = {(0, visits.decision + 4, "rs"): ([(1, 1)], [(1, 0)])}
     return [
-        trial("met-masks", masks, file, masks.point(), 2, left),
-        trial("met-written", written, written.finish(), written.point(), 2, FOUND.format(2, 4, 0, 3, 2)),
-        trial("met-visits", visits, visits.finish(), visits.point() | once, 3, FOUND.format(2, 7, 0, 1, 0)),
+        masks.trial("met-masks", file, 2, left),
+        written.trial("met-written", written.finish(), 2, found(2, 4, 3, 2)),
+        visits.trial("met-visits", visits.finish(), 3, found(2, 7, 1, 0), points=visits.point() | once),
     ]
 
 
 def limit_trials():
     """The second of two rounds with more turns left than at first, with fewer, and with fewer bits left."""
     more, fewer = Loop(2, [NOTHING] * 3), Loop(2, [jump_word(0, 16)], [NOTHING] * 3)
-    bits, stopped = Loop(2, [jump_word(0, 12)], CROSSED), FOUND.format(2, 4, 1, 1, 0)
+    bits, stopped = Loop(2, [jump_word(0, 12)], CROSSED), found(2, 4, 1, 0, stopped=1)
     points = bits.point() | {(0, bits.behind, "rs"): ([], [(1, 1)])}
     return [
-        trial("met-more-turns", more, more.finish(), more.point(), 2, stopped, "--turns=30"),
-        trial("met-fewer-turns", fewer, fewer.finish(), fewer.point(), 2, stopped, "--turns=30"),
-        trial("met-fewer-bits", bits, bits.finish(), points, 3, "unclear path 05 bits 4 budget 3 needed 4\n"),
+        more.trial("met-more-turns", more.finish(), 2, stopped, "--turns=30"),
+        fewer.trial("met-fewer-turns", fewer.finish(), 2, stopped, "--turns=30"),
+        bits.trial("met-fewer-bits", bits.finish(), 3, "unclear path 05 bits 4 budget 3 needed 4\n", points=points),
     ]
 
 
 def begin(count):
     """A guest that has read so many secret bytes, and holds the lowest bit of the first."""
     writer = Writer(None, BASE, 0)
-    writer.put(number_word(ANSWER, 3), DATA << 12 | BUFFER << 7 | 0x37, number_word(COUNT, count))
-    writer.put(number_word(NUMBER, 63), ECALL)
+    writer.put(*read_words(count))
     again = writer.here
     writer.put(immediate_word(4, TAKEN, BUFFER, 0, LOAD), immediate_word(7, TAKEN, TAKEN, 1))
     return writer, again
@@ -124,8 +114,9 @@ def open_trial():
     writer, again = begin(1)
     points = {(0, writer.here, "de"): ([], [(1, 1)])}
     writer.place(writer.put_branch(UNEQUAL, TAKEN, 0), again)
-    writer.put(number_word(ANSWER, 0), number_word(NUMBER, 93), ECALL)
-    return trial("met-open", 1, plain_file(writer.body()), points, 20, FOUND.format(1, 6, 2, 1, 0), "--turns=20")
+    writer.put(number_word(ANSWER, 0), *exit_words())
+    text = found(1, 6, 1, 0, stopped=2)
+    return trial("met-open", plain_file(writer.body()), Cut(1, 20, [], points), text, "--turns=20")
 
 
 def entry_trial():
@@ -142,9 +133,9 @@ def entry_trial():
     writer.put(NOTHING)
     writer.place(label)
     regions = region_text(enter, writer.here, [], ["s1"])
-    writer.put(immediate_word(0, ANSWER, KEPT, 0), number_word(NUMBER, 93), ECALL)
-    text = FOUND.format(1, 4, 0, 2, 1).replace("regions 0", "regions 1")
-    return trial("met-entry", 1, plain_file(writer.body()), points, 2, text, regions=regions)
+    writer.put(immediate_word(0, ANSWER, KEPT, 0), *exit_words())
+    text = found(1, 4, 2, 1, regions=1)
+    return trial("met-entry", plain_file(writer.body()), Cut(1, 2, [], points), text, regions=regions)
 
 
 def met_trials():
@@ -176,5 +167,5 @@ def loop_trial(dice, turns, paths, table, is_any_public=False):
     turns = turns if dice.random() < 0.6 else 8 + 10 * loop.count + dice.randrange(30)
     budget = dice.choice([100, 100, loop.count, loop.count + dice.randrange(8)])
     options = [f"--turns={turns}", f"--paths={paths}", f"--rules={table}", *["--any-public"] * is_any_public]
-    files, words = trial("", loop if descriptor else 1, file, points, budget, None, *options)[1:3]
-    return files | {"public": b"" if descriptor else bytes(loop.count)}, words
+    cut, public = Cut(loop.count if descriptor else 1, budget, [], points), b"" if descriptor else bytes(loop.count)
+    return trial("", file, cut, None, *options, public=public)[1:3]

@@ -2,17 +2,17 @@
 each, worked out by hand."""
 from carriers import SHOWN, TAKEN
 from cuts import Cut
+from hand_made import ANSWER, BUFFER, SECRET, exit_words, found, read_words, trial
 from instructions import ALL
 from pieces import BRANCH_FORMS, DATA
 from program_files import BASE, plain_file
 from programs import begin_program
 from ways import Ways
-from words import ECALL, LOAD, Writer, immediate_word, store_word
+from words import LOAD, Writer, immediate_word, store_word
 from worked_trial import number_word
 
-ANSWER, BUFFER, COUNT, NUMBER, SECRET_BYTE, PUBLIC_BYTE = 10, 11, 12, 17, 6, 7
-WHERE = 0x80
-FOUND = "bounded secret {} public {} regions 0 paths {} stopped {} outputs {} bits {}\n"
+PUBLIC, SECRET_BYTE, PUBLIC_BYTE = 0, 6, 7
+ANY = "--any-public"
 
 
 class Guesses(Ways):
@@ -55,24 +55,17 @@ def guessing_program(dice):
     return program
 
 
-def read_words(descriptor, offset):
-    """Reads one byte of an input."""
-    words = [number_word(ANSWER, descriptor), WHERE << 12 | BUFFER << 7 | 0x37]
-    words.append(immediate_word(0, BUFFER, BUFFER, offset))
-    return [*words, number_word(COUNT, 1), number_word(NUMBER, 63), ECALL]
-
-
 def begin():
     """A guest that has read a secret and a public byte into registers; they are 0 where there is none."""
     writer = Writer(None, BASE, 0)
-    writer.put(*read_words(3, 0), *read_words(0, 1))
+    writer.put(*read_words(1, SECRET, 0), *read_words(1, PUBLIC, 1))
     writer.put(immediate_word(4, SECRET_BYTE, BUFFER, -1, LOAD), immediate_word(4, PUBLIC_BYTE, BUFFER, 0, LOAD))
     return writer
 
 
 def finish(writer):
     """Exits with what the answer's register holds; the file."""
-    writer.put(number_word(NUMBER, 93), ECALL)
+    writer.put(*exit_words())
     return plain_file(writer.body())
 
 
@@ -102,18 +95,8 @@ def met_guest():
 def over_trial():
     """A public byte that is read over a secret one, without the flag."""
     writer = Writer(None, BASE, 0)
-    writer.put(*read_words(3, 0), *read_words(0, 0), immediate_word(4, ANSWER, BUFFER, 0, LOAD))
-    text = FOUND.format(1, "", 1, 0, 1, 0).replace("public  ", "")
-    name, files, words, text = trial("public-over-secret", finish(writer), b"\x41", 0, {}, text)
-    return name, files, [word for word in words if word != "--any-public"], text
-
-
-def trial(name, file, public, budget, points, text, *options):
-    """A trial: its name, its files, its words and the answer."""
-    files = {"program": file, "public": public, "cut": Cut(1, budget, [], points).text().encode()}
-    words = ["bound", "program", "public", "cut", str(budget), "--any-public", *options]
-    words += [] if options else ["--paths=300"]
-    return name, files, words, text
+    writer.put(*read_words(1, SECRET, 0), *read_words(1, PUBLIC, 0), immediate_word(4, ANSWER, BUFFER, 0, LOAD))
+    return trial("public-over-secret", finish(writer), Cut(1, 0, [], {}), found(1, 1, 1, 0), public=b"\x41")
 
 
 def public_trials():
@@ -125,16 +108,17 @@ def public_trials():
     echo.put(immediate_word(0, ANSWER, PUBLIC_BYTE, 0))
     shown = finish(echo)
     status = {(0, echo.here - 4, "st"): ([], [(1, 255)])}
+    short, met_text, typed = "unclear path 00 bits 1 budget 0 needed 1\n", found(1, 4, 2, 1, public=1), b"\x41"
     left = f"unclear path - bits 0 left 0 0x{decision:08x} de mask 0x00000001\n"
     unseen = f"unclear path - bits 0 left 0 0x{echo.here - 4:08x} st mask 0x000000ff\n"
     return [
-        trial("public-guess", file, b"\x41", 1, decides, FOUND.format(1, 1, 2, 0, 2, 1)),
-        trial("public-guess-of-none", file, b"", 1, decides, FOUND.format(1, 0, 2, 0, 2, 1)),
-        trial("public-guess-nowhere", file, b"\x41", 0, {}, left),
-        trial("public-guess-short", file, b"\x41", 0, decides, "unclear path 00 bits 1 budget 0 needed 1\n"),
-        trial("public-echo", shown, b"\x41", 8, status, FOUND.format(1, 1, 1, 0, 256, 8)),
-        trial("public-echo-of-none", shown, b"", 8, status, FOUND.format(1, 0, 1, 0, 1, 0)),
-        trial("public-echo-nowhere", shown, b"\x41", 8, {}, unseen),
-        trial("public-met", met, b"\x41", 2, decisions, FOUND.format(1, 1, 4, 0, 2, 1), "--paths=3", "--rules=2"),
+        trial("public-guess", file, Cut(1, 1, [], decides), found(1, 2, 2, 1, public=1), ANY, public=typed),
+        trial("public-guess-of-none", file, Cut(1, 1, [], decides), found(1, 2, 2, 1, public=0), ANY),
+        trial("public-guess-nowhere", file, Cut(1, 0, [], {}), left, ANY, public=typed),
+        trial("public-guess-short", file, Cut(1, 0, [], decides), short, ANY, public=typed),
+        trial("public-echo", shown, Cut(1, 8, [], status), found(1, 1, 256, 8, public=1), ANY, public=typed),
+        trial("public-echo-of-none", shown, Cut(1, 8, [], status), found(1, 1, 1, 0, public=0), ANY),
+        trial("public-echo-nowhere", shown, Cut(1, 8, [], {}), unseen, ANY, public=typed),
+        trial("public-met", met, Cut(1, 2, [], decisions), met_text, "--paths=3", "--rules=2", ANY, public=typed),
         over_trial(),
     ]

@@ -1,15 +1,14 @@
 """Guests that compute one thing of a secret byte, with the answer of `bound` by table 3 of the mask rules to each,
 worked out by hand."""
 from cuts import Cut
+from hand_made import ANSWER, BUFFER, COUNT, NUMBER, exit_words, found, read_words, trial
 from instructions import REGISTERS
 from program_files import BASE, plain_file
 from words import ECALL, LOAD, Writer, immediate_word, register_word, store_word
 from worked_trial import number_word
 
-ANSWER, BUFFER, COUNT, NUMBER, FIRST, SECOND = 10, 11, 12, 17, 6, 7
-WHERE = 0x80
+FIRST, SECOND = 6, 7
 MINORS = {name: (major, minor) for major, names in REGISTERS.items() for minor, name in names.items()}
-FOUND = "bounded secret 1 regions 0 paths 1 stopped 0 outputs {} bits {}\n"
 # the operation; its two operands, each as a number, or as the bits that are kept of the byte and those that are put
 # beside them; and how many bits of the result are free
 OF_A_BYTE = [
@@ -37,12 +36,11 @@ def operand_words(register, operand):
 def guest(name, first, second):
     """A guest that writes the four bytes of a result: its file, and the address of the write."""
     writer = Writer(None, BASE, 0)
-    writer.put(number_word(ANSWER, 3), WHERE << 12 | BUFFER << 7 | 0x37, number_word(COUNT, 1), number_word(NUMBER, 63))
-    writer.put(ECALL, *operand_words(FIRST, first), *operand_words(SECOND, second))
+    writer.put(*read_words(1), *operand_words(FIRST, first), *operand_words(SECOND, second))
     writer.put(register_word(MINORS[name], FIRST, FIRST, SECOND), store_word(2, BUFFER, FIRST, 0))
     writer.put(number_word(ANSWER, 1), number_word(COUNT, 4), number_word(NUMBER, 64))
     shown = writer.here
-    writer.put(ECALL, number_word(ANSWER, 0), number_word(NUMBER, 93), ECALL)
+    writer.put(ECALL, number_word(ANSWER, 0), *exit_words())
     return plain_file(writer.body()), shown
 
 
@@ -51,8 +49,6 @@ def range_trials():
     trials = []
     for place, (name, first, second, bits) in enumerate(OF_A_BYTE):
         file, shown = guest(name, first, second)
-        points = {(0, shown, "ou"): ([], [(1, 255)])}
-        files = {"program": file, "public": b"", "cut": Cut(1, 32, [], points).text().encode()}
-        words = ["bound", "program", "public", "cut", "32", "--paths=300", "--rules=3"]
-        trials.append((f"range-{place}-{name}", files, words, FOUND.format(1 << bits, bits)))
+        cut = Cut(1, 32, [], {(0, shown, "ou"): ([], [(1, 255)])})
+        trials.append(trial(f"range-{place}-{name}", file, cut, found(1, 1, 1 << bits, bits), "--rules=3"))
     return trials
