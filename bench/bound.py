@@ -75,7 +75,8 @@ def chosen_row(bits, turns, is_shown, is_late):
     """Bits that are chosen where they are read, or at last."""
     count, last = (bits + 7) // 8, f"0x{255 >> -bits % 8:08x}"
     if is_late:
-        points = [("xori", place, "rs", f"rest {last if place == count - 1 else '0x000000ff'}") for place in range(count)]
+        masks = ["0x000000ff"] * (count - 1) + [last] * (count > 0)
+        points = [("xori", place, "rs", f"rest {mask}") for place, mask in enumerate(masks)]
     else:
         listed = "" if bits % 8 == 0 else f"{count - 1}*0x000000ff "
         points = [("ecall", 0, "in", f"{listed}rest {last}")]
@@ -91,7 +92,8 @@ def filled(size):
 
 def each_bit(count, behind):
     """Reads so many secret bytes, lets the lowest bit of each cross, and makes these lines behind each."""
-    lines = call(63, 3, count) + ["li s1, 0x80000", f"li s2, {0x80000 + count}", "next: lbu t1, 0(s1)", "andi t1, t1, 1"]
+    lines = call(63, 3, count) + ["li s1, 0x80000", f"li s2, {0x80000 + count}", "next: lbu t1, 0(s1)",
+                                  "andi t1, t1, 1"]
     return [*lines, *behind, "addi s1, s1, 1", "bne s1, s2, next"]
 
 
@@ -122,7 +124,8 @@ def states_row(is_anew):
 
 def median_row(count):
     """Sorts secret bytes in their place and writes the middle one."""
-    lines = call(63, 3, count) + ["li s0, 0x80000", "li s1, 0x80001", f"li s2, {0x80000 + count}", "next: addi s3, s1, 0"]
+    lines = call(63, 3, count) + ["li s0, 0x80000", "li s1, 0x80001", f"li s2, {0x80000 + count}",
+                                  "next: addi s3, s1, 0"]
     lines += ["swap: beq s3, s0, sorted", "lbu t1, -1(s3)", "lbu t2, 0(s3)", "bgeu t2, t1, sorted", "sb t2, -1(s3)"]
     lines += ["sb t1, 0(s3)", "addi s3, s3, -1", "jal x0, swap", "sorted: addi s1, s1, 1", "bne s1, s2, next"]
     lines += ["li a0, 1", f"li a1, {0x80000 + count // 2}", "li a2, 1", "li a7, 64", "ecall", *EXIT]
@@ -132,12 +135,13 @@ def median_row(count):
 
 
 def card_row(count):
-    """The check digit of a card: each second digit is doubled, less 9 where that is above 9; the sum, less 10 where it is
-    above 9, must be 0 at last. Exits with 0, with 1, or with 2 where one is no digit."""
+    """The check digit of a card: each second digit is doubled, less 9 where that is above 9; the sum, less 10 where it
+    is above 9, must be 0 at last. Exits with 0, with 1, or with 2 where one is no digit."""
     lines = call(63, 3, count) + ["li s1, 0x80000", f"li s2, {0x80000 + count}", "li t5, 10", "li t2, 0", "li t3, 0"]
     lines += ["next: lbu t1, 0(s1)", "addi t1, t1, -48", "bgeu t1, t5, other", "xori t3, t3, 1", "beq t3, x0, single"]
     lines += ["add t1, t1, t1", "bltu t1, t5, single", "addi t1, t1, -9", "single: add t2, t2, t1"]
-    lines += ["bltu t2, t5, below", "addi t2, t2, -10", "below: addi s1, s1, 1", "bne s1, s2, next", "bltu x0, t2, wrong"]
+    lines += ["bltu t2, t5, below", "addi t2, t2, -10", "below: addi s1, s1, 1", "bne s1, s2, next"]
+    lines += ["bltu x0, t2, wrong"]
     lines += EXIT + ["wrong: li a0, 1", *EXIT[1:], "other: li a0, 2", *EXIT[1:]]
     points = [(name, None, "de", "rest 0x00000001") for name in ("bgeu", "bltu")]
     bits, paths = 2 * count + (count + 1) // 2 + 1, 2
@@ -147,7 +151,8 @@ def card_row(count):
 
 
 def records_row(count, classes):
-    """Of how many classes there are some records, but fewer than four: that is where one has not three others like it."""
+    """Of how many classes there are some records, but fewer than four: that is where one has not three others like
+    it."""
     lines = call(63, 3, count) + ["li s0, 0", "li s4, 0", f"li s5, {classes}", "li t2, 4"]
     lines += ["class: li s1, 0x80000", f"li s2, {0x80000 + count}", "li s3, 0", "next: lbu t1, 0(s1)", "xor t1, t1, s0"]
     lines += ["bgeu x0, t1, alike", "jal x0, other", "alike: beq s3, t2, other", "addi s3, s3, 1"]
@@ -189,7 +194,9 @@ def timed_row(programs, folder, row, times):
 
 def number_text(number):
     """A number of paths in at most ten columns."""
-    return str(number) if number < 10**9 else f"{number:.1e}" if number < 10**300 else "2^" + str(number.bit_length() - 1)
+    if number < 10**9:
+        return str(number)
+    return f"{number:.1e}" if number < 10**300 else f"2^{number.bit_length() - 1}"
 
 
 def main():

@@ -38,8 +38,8 @@ def main():
         seconds = {}
         for name in ("short", "whole"):
             start = time.monotonic()
-            out = subprocess.run([program], cwd=folder, input=f"table certificate\n{name}\n", capture_output=True, text=True,
-                                 check=True)
+            table = f"table certificate\n{name}\n"
+            out = subprocess.run([program], cwd=folder, input=table, capture_output=True, text=True, check=True)
             seconds[name] = time.monotonic() - start
             print(f"{out.stdout.splitlines()[1]}: {seconds[name]:.2f} s")
         print(f"{len(text)} bytes, verified in {seconds['whole'] - seconds['short']:.2f} s")

@@ -3,7 +3,8 @@
 
 Times the built program of crates/graph_rows on so many events, 100,000,000 where the number isn't named, over points
 and links that are known already. Prints for each load the nanoseconds for an event, of the processor's time that the
-program used less that of a run without the events, the seconds of that run, and the most memory. Linux with Python 3."""
+program used less that of a run without the events, the seconds of that run, and the most memory. Linux with Python
+3."""
 import tempfile
 
 from timing import parser_of, worked
@@ -28,7 +29,8 @@ def main():
             seconds.append(spent)
             memory = max(memory, most)
         each = (seconds[1] - seconds[0]) * 1e9 / events
-        print(f"points {points} links {links}: {each:.1f} ns an event, {seconds[0]:.2f} s without, {memory / 1e6:.0f} MB")
+        print(f"points {points} links {links}: {each:.1f} ns an event, {seconds[0]:.2f} s without, "
+              f"{memory / 1e6:.0f} MB")
 
 
 if __name__ == "__main__":

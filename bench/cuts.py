@@ -1,9 +1,9 @@
 #!/usr/bin/env python3
 """cuts.py EXECUTABLE
 
-Times `check` of the built program with a cut of 64 MiB, in version 1 and in version 2, of points with short lists, and of
-one point with a long list. The guest exits at once, so that the time is that of reading the cut. Prints the seconds of
-the whole command and the most memory that it had. Every check must accept its secret. Linux with Python 3."""
+Times `check` of the built program with a cut of 64 MiB, in version 1 and in version 2, of points with short lists, and
+of one point with a long list. The guest exits at once, so that the time is that of reading the cut. Prints the seconds
+of the whole command and the most memory that it had. Every check must accept its secret. Linux with Python 3."""
 import os
 import pathlib
 import sys

@@ -27,7 +27,8 @@ import time
 
 
 def link_words(pairs, sources, sinks):
-    """The links as words, ascending: those of the source, and of each point those to points and then that to the sink."""
+    """The links as words, ascending: those of the source, and of each point those to points and then that to the
+    sink."""
     leads = sorted([(a, 0, b) for a, b in pairs] + [(p, 1, 0) for p in sinks])
     return [f"s-p{p}" for p in sources] + [f"p{a}-t" if last else f"p{a}-p{b}" for a, last, b in leads]
 
@@ -54,7 +55,8 @@ def layers(points, links, chance):
     """Links from each layer of 1,024 points to the next."""
     width = 1024
     each = max(1, links // points)
-    pairs = {(p, (p // width + 1) * width + chance.randrange(width)) for p in range(points - width) for _ in range(each)}
+    first = [(p, (p // width + 1) * width) for p in range(points - width)]
+    pairs = {(p, begin + chance.randrange(width)) for p, begin in first for _ in range(each)}
     return sorted(pairs), range(width), range(points - width, points)
 
 

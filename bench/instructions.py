@@ -1,9 +1,9 @@
 #!/usr/bin/env python3
 """instructions.py OLD NEW
 
-Counts by valgrind the instructions that two built programs take for `check` of the guests of run.py and for `measure` of
-those of measure.py, with fewer turns. Prints both counts and their ratio. What else the machine does changes nothing of
-it. Linux with Python 3 and valgrind."""
+Counts by valgrind the instructions that two built programs take for `check` of the guests of run.py and for `measure`
+of those of measure.py, with fewer turns. Prints both counts and their ratio. What else the machine does changes nothing
+of it. Linux with Python 3 and valgrind."""
 import sys
 import tempfile
 

@@ -1,8 +1,8 @@
 """What a command takes: seconds, the seconds in which processors worked for it, memory, or instructions.
 
 A measure is called with the words of a command, the first of them an absolute path, and a folder for what the command
-puts, which is then in its file `put`. It gives what was taken, the most memory in bytes, the status, and what was put.
-What stands on standard error is left out."""
+puts, which is then in its file `put`. It gives what was taken, the most memory in bytes, the status, and what was
+put. What stands on standard error is left out."""
 import argparse
 import os
 import pathlib

@@ -18,11 +18,12 @@ from concurrent.futures import ThreadPoolExecutor
 
 RUN = ("--turns", "--regions")
 MEASURED = RUN + ("--rules",)
-OPTIONS = {"check": RUN, "taint": MEASURED, "bound": MEASURED + ("--paths",), "measure": MEASURED + ("--cut",), "measure-all": MEASURED + ("--cut",),
+CUT = MEASURED + ("--cut",)
+OPTIONS = {"check": RUN, "taint": MEASURED, "bound": MEASURED + ("--paths",), "measure": CUT, "measure-all": CUT,
            "graph": MEASURED, "report": MEASURED, "learn": ("--turns",), "asm": (), "list": (), "verify": (),
            "migrate": (), "trial": ()}
-COUNTS = {"check": (5, 68), "taint": (5, 68), "bound": (4, 4), "measure": (3, 3), "measure-all": (3, 66), "graph": (3, 3),
-          "report": (3, 3), "learn": (4, 4)}
+COUNTS = {"check": (5, 68), "taint": (5, 68), "bound": (4, 4), "measure": (3, 3), "measure-all": (3, 66),
+          "graph": (3, 3), "report": (3, 3), "learn": (4, 4)}
 FLAGS = {"report": ("--json",), "bound": ("--list",)}
 
 
@@ -73,8 +74,8 @@ def first_file(words):
 ODD = ["", "-", "--", "-x", "--help", "--version", "--json", "--json=", "--json=v", "--turns", "--turns=", "--turns=5",
        "--regions", "--regions=", "--regions=r", "--regions=-r", "--regions=a=b", "--rules", "--rules=2", "--rules=3",
        "--cut=2", "--cut=02", "--turns=05", "--turns=0", "--turns=20000001", "--turn=5", "a=b", "=", "=5", "-t=5", "05",
-       "1048577", "+5", " 5", "check", "report", "taint", "bound", "learn", "measure-all", "--list", "--list=", "--list=v",
-       "--paths", "--paths=9", "--paths=0", "--paths=1048577"]
+       "1048577", "+5", " 5", "check", "report", "taint", "bound", "learn", "measure-all", "--list", "--list=",
+       "--list=v", "--paths", "--paths=9", "--paths=0", "--paths=1048577"]
 
 
 def option(rng):

@@ -14,8 +14,8 @@ class Section:
 
 
 class Words:
-    """A paragraph. `text` are its words on a terminal, where they are others: there are no colours. `head` are the first
-    of the words, where they stand out."""
+    """A paragraph. `text` are its words on a terminal, where they are others: there are no colours. `head` are the
+    first of the words, where they stand out."""
 
     def __init__(self, words, kind="", number=None, text=None, head=""):
         self.words, self.kind, self.number, self.on_terminal, self.head = words, kind, number, text or words, head

@@ -55,8 +55,8 @@ class Lint:
             self.look_at_region(region)
         if 2 * self.lost > len(self.by_number):
             of_all = f"{self.lost} of {counted(len(self.by_number), 'region')}"
-            self.find("the regions", f"no code leads to the begin or the end of {of_all}; it is the region file of another "
-                                     "program, or of another build")
+            self.find("the regions", f"no code leads to the begin or the end of {of_all}; it is the region file of "
+                                     "another program, or of another build")
         return self.findings
 
     def is_place(self, point):

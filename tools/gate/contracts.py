@@ -68,7 +68,8 @@ def contracts(revision):
             function = FUNCTION.match(line)
             inside = re.match(r"^    fn (\w+)", line) if owner and line.startswith("    fn") else None
             if function or (inside and text.count("pub trait")):
-                key = (name.split("/")[1], owner if line.startswith(" ") else "", (function or inside).group(2 if function else 1))
+                called = function.group(2) if function else inside.group(1)
+                key = name.split("/")[1], owner if line.startswith(" ") else "", called
                 found[key] = clauses_of(head_of(lines, number))
     return found
 

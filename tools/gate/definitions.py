@@ -75,7 +75,8 @@ class Source:
     def definitions(self):
         """Each definition with its first line and the line behind its last."""
         outer, heads = self.outer_lines()
-        edges = [n for n, line in enumerate(outer) if re.match(r"--|use |pub mod|module |infix", line) or HEAD.match(line)]
+        parts = re.compile(r"--|use |pub mod|module |infix")
+        edges = [n for n, line in enumerate(outer) if parts.match(line) or HEAD.match(line)]
         for first, end in zip(edges, edges[1:] + [len(outer)]):
             if head := HEAD.match(outer[first]):
                 name, body = head[1] or head[2], "\n".join(outer[first:end]).rstrip()

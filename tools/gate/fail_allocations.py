@@ -195,7 +195,8 @@ def main():
             total += found[0]
             print(f"{' '.join(words)}: {found[0]} failed, {found[1]} of them with the whole text", flush=True)
         wrong += not same_number(executable, folder, shim)
-    print(f"{total} allocations failed in turn: each other run ended with status 8 and put nothing; {wrong} lines differ")
+    print(f"{total} allocations failed in turn: each other run ended with status 8 and put nothing; "
+          f"{wrong} lines differ")
     return int(wrong > 0)
 
 

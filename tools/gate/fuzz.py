@@ -177,7 +177,8 @@ class Corpus:
     def __init__(self):
         examples = TOOLS.parent / "examples"
         self.sources = [path.read_bytes() for path in examples.rglob("*.s")]
-        self.lines = [line.split(" -> ")[0] for line in parts_of(TOOLS.parent / "crates" / "file_rows" / "stdin")["asm"]]
+        table = TOOLS.parent / "crates" / "file_rows" / "stdin"
+        self.lines = [line.split(" -> ")[0] for line in parts_of(table)["asm"]]
         self.certificates = []
 
     def trial(self, dice, seed):
@@ -216,8 +217,8 @@ def with_turns(dice, words, turns):
 
 def call_of(dice, corpus, seed, turns):
     """The files of a call and its words."""
-    kind = dice.choice(["check"] * 4 + ["taint"] * 2 + ["bound"] * 2 + ["measure", "measure", "graph", "report", "learn", "verify"]
-                       + ["migrate", "asm", "list"])
+    kind = dice.choice(["check"] * 4 + ["taint"] * 2 + ["bound"] * 2 + ["measure"] * 2
+                       + ["graph", "report", "learn", "verify", "migrate", "asm", "list"])
     if kind == "asm":
         files = {"source": corpus.source(dice)}
         words = ["asm", "source"]

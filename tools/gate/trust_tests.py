@@ -53,7 +53,8 @@ class Narrow(Expectations):
         length, name = dice.randint(4, 16), f"narrow{seed}"
         source = SOURCE.format(
             size=dice.choice([16, 32, 64, 100]), length=length, compare=dice.choice(["<", ">"]),
-            limit=dice.randint(60, 190), factor=dice.choice([1, 3, 5, 7]), change=dice.choice(["= 1", "+= 1", "^= bytes[at]"]),
+            limit=dice.randint(60, 190), factor=dice.choice([1, 3, 5, 7]),
+            change=dice.choice(["= 1", "+= 1", "^= bytes[at]"]),
             last=dice.choice(["> 3", "% 4", "& 7"]))
         self.write(**{f"{name}.c": source, f"{name}.secret": dice.randbytes(length), f"{name}.public": b""})
         elf, named = self.built(f"{name}.c", "gcc"), [self.path(f"{name}.{kind}") for kind in ("public", "secret")]

@@ -1,9 +1,9 @@
 """All outputs that any secret can give: the replay, walked with masks along every string of bits that can cross a cut.
 
 A walk knows of each register and byte the value of the replay and a mask: the bits that may differ in the run of
-another secret that has come the same way. Of the bits that cross at a visit those outside the mask are the replay's own,
-those of an output are free, and each other one is a choice, the next bit of the path. Where the public input may be any,
-its bytes are walked as zeros with masks too.
+another secret that has come the same way. Of the bits that cross at a visit those outside the mask are the replay's
+own, those of an output are free, and each other one is a choice, the next bit of the path. Where the public input may
+be any, its bytes are walked as zeros with masks too.
 
 From one state on everything is the same, but for the turns and the bits that are left. So a walk ends where it comes to
 a state all of whose paths are known, and as many turns and bits are left as the longest of them want."""
@@ -26,8 +26,8 @@ class Unclear(Exception):
 
 
 class TurnMasks:
-    """The masks of a walk. A turn is a coroutine beside that of the guest: at each visit it yields the mask of the value,
-    and it is sent the value that goes on with the mask that is left."""
+    """The masks of a walk. A turn is a coroutine beside that of the guest: at each visit it yields the mask of the
+    value, and it is sent the value that goes on with the mask that is left."""
 
     def __init__(self, table, guest, public_mask=0):
         self.table, self.guest, self.public_mask = table, guest, public_mask
@@ -189,9 +189,9 @@ FORMS = {form: getattr(TurnMasks, form) for form in (
 
 
 class Walk:
-    """A walk along a path, 0 behind its last bit: the choices and turns that it made, how many bits crossed, the masks of
-    its output, how many entries and leaves of regions it made, and how it ended: `exited` with a status, `stopped` with
-    a text, or `met` with what is below a state. It may be `Unclear`."""
+    """A walk along a path, 0 behind its last bit: the choices and turns that it made, how many bits crossed, the masks
+    of its output, how many entries and leaves of regions it made, and how it ended: `exited` with a status, `stopped`
+    with a text, or `met` with what is below a state. It may be `Unclear`."""
 
     def __init__(self, task, path):
         self.guest = ReplayGuest(task.image, task.walked_public(), bytes(task.cut.secret_length), task.regions)
@@ -347,11 +347,11 @@ def counted(number):
 
 
 class Bounds:
-    """The paths of a task: how many there are, how many stop, the first that does, and the patterns in the order in which
-    they were found with the bytes that they have together, the choices of the last walk and of the first path that stops;
-    or the text of what is unclear, and how many paths there are up to that one, or at least. At most so many walks are
-    made, those of the task without a number; without `is_meeting` each path is walked from the start. `meetings` counts
-    the states that walks come to again, by kind."""
+    """The paths of a task: how many there are, how many stop, the first that does, and the patterns in the order in
+    which they were found with the bytes that they have together, the choices of the last walk and of the first path
+    that stops; or the text of what is unclear, and how many paths there are up to that one, or at least. At most so
+    many walks are made, those of the task without a number; without `is_meeting` each path is walked from the start.
+    `meetings` counts the states that walks come to again, by kind."""
 
     def __init__(self, task, most=None, is_meeting=True):
         self.task, self.most, self.is_meeting = task, most or task.paths, is_meeting

@@ -27,8 +27,8 @@ def steps(program, page):
         program, "bound", GUEST, TYPED, CUT, "3", "--any-public", "--list"]
     yield "One run, on the PIN 1234: how many bits pass, and where?", [program, "measure", GUEST, TYPED, PIN]
     yield "The PINs 1234 and 9999 against the cut of that run:", [program, "check", GUEST, TYPED, CUT, "3", PIN, OTHER]
-    yield "The page of the run:", [
-        sys.executable, "-B", "tools/explain.py", GUEST, TYPED, PIN, "--flowcheck", shlex.quote(program), "--output", page]
+    named = ["--flowcheck", shlex.quote(program), "--output", page]
+    yield "The page of the run:", [sys.executable, "-B", "tools/explain.py", GUEST, TYPED, PIN, *named]
 
 
 def shown(command):

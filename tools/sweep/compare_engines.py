@@ -19,7 +19,8 @@ import one_node
 import two_hosts
 from tests import SWEEP, TOP, hashes
 
-PROGRAM = [TOP / "crates/machine_rows/data/pin-gcc.elf", TOP / "examples/guests/typed", TOP / "examples/guests/cut", "3"]
+GUESTS = TOP / "examples/guests"
+PROGRAM = [TOP / "crates/machine_rows/data/pin-gcc.elf", GUESTS / "typed", GUESTS / "cut", "3"]
 
 
 def files_in(folder):

@@ -1,4 +1,5 @@
-"""The guests whose events the table `tracked` of crates/label_rows has: one turn of each kind, with labels and without."""
+"""The guests whose events the table `tracked` of crates/label_rows has: one turn of each kind, with labels and
+without."""
 import collections
 import json
 

@@ -7,8 +7,8 @@ The guests are those of guests/kinds and of examples/truth, made by gcc or by wh
 outputs was counted by hand; GUESTS says how. Prints a table: the bytes of the secret, the true number, the bits that
 `measure` has of one secret, the bound of the outputs and of their bits, how it was come to, how many outputs the random
 secrets gave, and the seconds of `make` by the clock. The last line counts the guests that were answered, those that
-were exact, and those whose bound is below the truth, for which the status is 1. The program is the option, or FLOWCHECK, or
-the built one, or the model."""
+were exact, and those whose bound is below the truth, for which the status is 1. The program is the option, or
+FLOWCHECK, or the built one, or the model."""
 import argparse
 import os
 import re
@@ -29,7 +29,7 @@ GUESTS = [
     ("token", "tools/guests/kinds", bytes(range(16)), bytes(range(1, 17)), 2),  # 0 and 1
     ("keypad", "examples/truth", b"Margaret000011111234", b"1234", 4),  # right at one of three tries, or not
     ("own_hash", "tools/guests/kinds", b"\x12\x34\x56\x78", b"correcthor", 2),  # yes and no
-    ("derived", "tools/guests/kinds", b"salt", b"passphra", 256),  # at most any byte; 250 of them were seen of random secrets
+    ("derived", "tools/guests/kinds", b"salt", b"passphra", 256),  # at most any byte; 250 were seen
     ("card", "tools/guests/kinds", b"", b"123456781234", 3),  # right, wrong, no number
     ("query", "examples/truth", bytes([30, 60, 2]), RECORDS, 5),  # none to three, many
     ("ballots", "examples/truth", b"", b"ABCABCABAAB", 4),  # three candidates, a tie

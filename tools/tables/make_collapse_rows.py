@@ -1,10 +1,10 @@
 #!/usr/bin/env python3
-"""Prints what crates/graph_rows must print of its table `collapse`: the answers at the limits of a graph, by its rules, and what 1,000 random
-lists of events have together.
+"""Prints what crates/graph_rows must print of its table `collapse`: the answers at the limits of a graph, by its rules,
+and what 1,000 random lists of events have together.
 
-The lists are those of the program: the same linear congruential generator makes them. Their graphs are computed here from
-the whole list, by the definition: an event other than a pass is passed over where a point that it names has not passed a
-mask other than 0 before, and so is an output of region 0; `Implicit` to region 0 leads to the sink."""
+The lists are those of the program: the same linear congruential generator makes them. Their graphs are computed here
+from the whole list, by the definition: an event other than a pass is passed over where a point that it names has not
+passed a mask other than 0 before, and so is an output of region 0; `Implicit` to region 0 leads to the sink."""
 MASK = (1 << 64) - 1
 
 
@@ -72,7 +72,8 @@ def sums(lists):
 
 
 def edge(name, points, links):
-    """A known point and link are taken and so is what is passed over; a point or link more is not, and nothing after it."""
+    """A known point and link are taken and so is what is passed over; a point or link more is not, and nothing after
+    it."""
     answers = "known taken taken passed over taken taken more limit again limit then limit"
     return f"{name}: {answers}; points {points} relays 0 links {links}"
 

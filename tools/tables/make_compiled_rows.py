@@ -1,9 +1,9 @@
 #!/usr/bin/env python3
 """Says what crates/machine_rows must print of its table `compiled`, which it reads.
 
-Runs each guest that a line of standard input names under qemu-riscv32, on the secret and the public input of the line, and
-writes the line with the number of bytes that the guest wrote and its exit status. A line is PROGRAM CUT SECRET PUBLIC;
-the cut is passed over, and a dash stands for an empty input."""
+Runs each guest that a line of standard input names under qemu-riscv32, on the secret and the public input of the line,
+and writes the line with the number of bytes that the guest wrote and its exit status. A line is PROGRAM CUT SECRET
+PUBLIC; the cut is passed over, and a dash stands for an empty input."""
 import os
 import subprocess
 import sys

@@ -1,5 +1,6 @@
 #!/usr/bin/env python3
-"""Makes the table `flow` of crates/graph_rows from networkx, in its `stdin` and its `stdout`, in the folder that is named.
+"""Makes the table `flow` of crates/graph_rows from networkx, in its `stdin` and its `stdout`, in the folder that is
+named.
 
 A row of `stdin` is a graph, as words in this order:
 
@@ -119,7 +120,8 @@ def rows():
     yield row([3, 2, 5], [], join)
     yield row([8], [], [(SOURCE, "p0"), ("p0", SINK), ("p0", "p0")])
     yield row([8], [], [])
-    yield row([2**48 - 1] * 3, ["r0", "r65535"], [(SOURCE, "p0"), (SOURCE, "p1"), ("p0", "r65535"), ("p1", SINK), ("r65535", SINK)])
+    links = [(SOURCE, "p0"), (SOURCE, "p1"), ("p0", "r65535"), ("p1", SINK), ("r65535", SINK)]
+    yield row([2**48 - 1] * 3, ["r0", "r65535"], links)
     yield row(*chain(60))
     dice = random.Random(20261127)
     for _ in range(240):

@@ -1,9 +1,9 @@
 #!/usr/bin/env python3
 """put_rows.py FILE TABLE [--show]
 
-Puts the rows of standard input in place of those of a table in FILE, the `stdin` or the `stdout` of a table program that
-goes through several: those behind its line `table TABLE`, up to the next such line or the end. With --show it prints
-the rows that there are instead, and changes nothing."""
+Puts the rows of standard input in place of those of a table in FILE, the `stdin` or the `stdout` of a table program
+that goes through several: those behind its line `table TABLE`, up to the next such line or the end. With --show it
+prints the rows that there are instead, and changes nothing."""
 import argparse
 import pathlib
 import sys
