@@ -6,9 +6,10 @@ ghost use Rattle.flow_certificate.specs.Private.Drafts.{may_add_link as may_link
 ghost use Rattle.flow_certificate.specs.Private.Drafts.{may_add_relay as may_relay, sketch_of, step, taken};
 
 use crate::drafts::{Draft, Stage};
-use crate::following::{is_link, may_follow_links, may_follow_points, may_follow_regions};
+use crate::following::{may_follow_links, may_follow_points, may_follow_regions};
 use crate::lines::{Line, LinkLine, PointLine, RelayLine};
 use flow_base::{List, NoMemory};
+use flow_graph::joins_ends;
 use std::alloc::Global;
 
 /// The draft of no lines.
@@ -81,7 +82,7 @@ fn may_add_link(draft: &Draft, line: &LinkLine) -> bool
 {
     is_open(draft.stage)
         && may_follow_links(draft.links.as_slice(), line)
-        && is_link(draft.points.len(), draft.regions.as_slice(), &line.link)
+        && joins_ends(draft.points.len(), draft.regions.as_slice(), &line.link)
 }
 
 /// Takes the line of the version, where it may come.

@@ -10,7 +10,6 @@ use crate::ends::{Arc, End};
 use crate::graphs::Graph;
 use crate::nodes::Node;
 use flow_base::List;
-use std::cmp::Ordering;
 
 /// Whether each point has a capacity other than 0.
 fn have_capacities(points: &[Node]) -> bool
@@ -32,7 +31,7 @@ impl Ranked for Node {
     ghost order = { node_cmp };
 
     fn comes_before(&self, other: &Node) -> bool {
-        matches!(self.point.cmp(&other.point), Ordering::Less)
+        self.point.is_below(other.point)
     }
 }
 
@@ -48,7 +47,7 @@ impl Ranked for Arc {
     ghost order = { arc_cmp };
 
     fn comes_before(&self, other: &Arc) -> bool {
-        matches!(self.cmp(other), Ordering::Less)
+        *self < *other
     }
 }
 
@@ -116,8 +115,8 @@ fn leads_well(source: End, target: End) -> bool
     }
 }
 
-/// Whether a link joins ends that there are.
-fn joins_ends(count: usize, relays: &[u16], link: &Arc) -> bool
+/// Whether a link joins ends that there are, among so many points and these relays.
+pub fn joins_ends(count: usize, relays: &[u16], link: &Arc) -> bool
     requires { are_relays relays.now ≡ true }
     ensures { result ≡ is_link count relays.now link.now }
 {

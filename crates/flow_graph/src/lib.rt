@@ -15,6 +15,7 @@ mod named_links;
 mod nodes;
 
 pub use builders::{Builder, outlet};
+pub use checking::joins_ends;
 pub use collapsing::{graph_of, has_few_events};
 pub use ends::{Arc, End};
 pub use event_lists::EventList;
