@@ -4,11 +4,11 @@ use crate::points::{CutPoint, Run};
 use flow_base::{List, NoMemory};
 use std::alloc::Global;
 
-/// A copy of runs.
-pub(crate) fn copy_runs(alloc: Global, runs: &List<Run>) -> Result<List<Run>, NoMemory>
+/// A copy of runs. Its error is lack of memory.
+pub fn copy_runs(alloc: Global, runs: &[Run]) -> Result<List<Run>, NoMemory>
     ensures { IfOk result (λ copy. copy ≡ runs.now) }
 {
-    let items = runs.as_slice().to_vec(alloc)?;
+    let items = runs.to_vec(alloc)?;
     Ok(List::from_vec(items))
 }
 
@@ -18,8 +18,8 @@ pub(crate) fn copy_point(alloc: Global, cut_point: &CutPoint) -> Result<CutPoint
 {
     Ok(CutPoint {
         point: cut_point.point,
-        runs: copy_runs(alloc, &cut_point.runs)?,
-        rest: copy_runs(alloc, &cut_point.rest)?,
+        runs: copy_runs(alloc, cut_point.runs.as_slice())?,
+        rest: copy_runs(alloc, cut_point.rest.as_slice())?,
     })
 }
 
@@ -38,10 +38,10 @@ pub(crate) fn copy_points(
     Ok(copies)
 }
 
-/// A copy of the numbers of regions.
-pub(crate) fn copy_regions(alloc: Global, regions: &List<u16>) -> Result<List<u16>, NoMemory>
-    ensures { IfOk result (λ copy. copy ≡ regions.now) }
+/// A copy of a list of numbers, as those of regions. Its error is lack of memory.
+pub fn copy_numbers(alloc: Global, numbers: &List<u16>) -> Result<List<u16>, NoMemory>
+    ensures { IfOk result (λ copy. copy ≡ numbers.now) }
 {
-    let items = regions.as_slice().to_vec(alloc)?;
+    let items = numbers.as_slice().to_vec(alloc)?;
     Ok(List::from_vec(items))
 }

@@ -18,6 +18,7 @@ mod reading;
 mod words;
 mod writing;
 
+pub use copies::{copy_numbers, copy_runs};
 pub use cuts::Cut;
 pub use faults::CutFault;
 pub use folding::fold;

@@ -2,7 +2,7 @@ ghost use Rattle.std.specs.Prelude.{◌≡◌, IfOk};
 ghost use Rattle.cut_file.specs.Folds.{migrated};
 ghost use Rattle.cut_file.specs.Pictures.{cut_picture};
 
-use crate::copies::{copy_points, copy_regions};
+use crate::copies::{copy_numbers, copy_points};
 use crate::cuts::Cut;
 use flow_base::NoMemory;
 use std::alloc::Global;
@@ -11,7 +11,7 @@ use std::alloc::Global;
 pub fn migrate(alloc: Global, cut: &Cut) -> Result<Cut, NoMemory>
     ensures { IfOk result (λ other. cut_picture other ≡ migrated (cut_picture cut.now)) }
 {
-    let skip = copy_regions(alloc, &cut.skip)?;
+    let skip = copy_numbers(alloc, &cut.skip)?;
     let points = copy_points(alloc, &cut.points)?;
     Ok(Cut {
         version: 2,

@@ -5,16 +5,9 @@ ghost use Rattle.replay_machine.specs.Private.Trims.{trimmed, without_last as fr
 ghost use Rattle.replay_machine.specs.Visits.{SameAhead};
 
 use crate::cursors::Cursor;
-use cut_file::{Cut, CutPoint, Run};
-use flow_base::{List, NoMemory};
+use cut_file::{Cut, CutPoint, Run, copy_runs};
+use flow_base::NoMemory;
 use std::alloc::Global;
-
-fn copy_runs(alloc: Global, runs: &[Run]) -> Result<List<Run>, NoMemory>
-    ensures { IfOk result (λ copy. copy ≡ runs.now) }
-{
-    let items = runs.to_vec(alloc)?;
-    Ok(List::from_vec(items))
-}
 
 fn without_last(runs: &[Run], mask: u32) -> &[Run]
     ensures { result.now ≡ front_of mask runs.now }
@@ -80,12 +73,4 @@ pub(crate) fn first_cursors(alloc: Global, count: usize) -> Result<Vec<Cursor>, 
     };
     let cursors = vec![in alloc; first; count]?;
     Ok(cursors)
-}
-
-/// A copy of a list of numbers.
-pub(crate) fn copy_numbers(alloc: Global, numbers: &List<u16>) -> Result<List<u16>, NoMemory>
-    ensures { IfOk result (λ copy. copy ≡ numbers.now) }
-{
-    let items = numbers.as_slice().to_vec(alloc)?;
-    Ok(List::from_vec(items))
 }

@@ -17,7 +17,6 @@ ghost use Rattle.region_machine.specs.Runs.{has_exited};
 ghost use Rattle.replay_machine.specs.Standing.{Stands, Turned, end_answer, turn_answer, taken_after};
 ghost use Rattle.replay_machine.specs.Standing.{mark_of};
 
-use crate::copies::copy_numbers;
 use crate::marks::Mark;
 use crate::outsides::Outside;
 use crate::playing::play;
@@ -25,7 +24,7 @@ use crate::replays::Replaying;
 use crate::turns::ReplayTurn;
 use crate::visit_masks::VisitMasks;
 use crossing_bits::Bits;
-use cut_file::Cut;
+use cut_file::{Cut, copy_numbers};
 use elf32_loader::Image;
 use enclosure_regions::{Regions, copy_regions};
 use flow_base::{Bytes, List, NoMemory};
