@@ -7,4 +7,5 @@ pub mod Starts
 pub mod Guards
 pub mod NextTurns
 pub mod Pairs
+pub mod AddressMarks
 pub mod Private

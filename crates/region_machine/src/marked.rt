@@ -1,51 +1,32 @@
-ghost use Rattle.std.specs.Prelude.{◌≡◌, ◌<◌, IfOk, IsTrue, List as Seq, ℕ, None, vec_len};
+ghost use Rattle.std.specs.Prelude.{◌≡◌, IfOk, IsTrue, None};
 ghost use Rattle.std.specs.List.{list_all};
 ghost use Rattle.region_machine.specs.Enclosures.{kind_of, region_entered_at as entry_at, Steps};
-ghost use Rattle.region_machine.specs.Private.Marked.{is_marked, mark_place};
+ghost use Rattle.region_machine.specs.Private.Marked.{is_marked};
 ghost use Rattle.region_machine.specs.Within.{seen, has_rules, can_leave, may_leave};
 
+use crate::address_marks::AddressMarks;
 use crate::kinds::{GuestTurn, guest_turn};
 use enclosure_regions::{Region, Regions};
 use flow_base::NoMemory;
 use rv32im_machine::Machine;
 use std::alloc::Global;
 
-/// How many marks there are.
-const MARKS: usize = 65_536;
-
 /// Regions with a mark where each is entered, so that mostly one look tells that no region is entered at an address.
 #[derive(Drop)]
 pub struct MarkedRegions {
     /// The regions.
     pub regions: Regions,
-    marks: Vec<bool>,
-    ghost count: { vec_len marks ≡ 65536 },
-    ghost marked: { IsTrue (list_all (is_marked marks.items) regions.items) },
+    marks: AddressMarks,
+    ghost marked: { IsTrue (list_all (is_marked marks) regions.items) },
 }
 
-/// The index of an address's mark.
-fn place(address: u32) -> usize
-    ensures place { result ≡ mark_place address }
-    ensures bound { result < 65536 }
+/// The marks of the addresses at which the regions are entered.
+fn marks_of(alloc: Global, regions: &[Region]) -> Result<AddressMarks, NoMemory>
+    ensures { IfOk result (λ marks. IsTrue (list_all (is_marked marks) regions.now)) }
 {
-    (address / 4) as usize % MARKS
-}
-
-fn unmarked(alloc: Global, count: usize) -> Result<Vec<bool>, NoMemory>
-    ensures { IfOk result (λ marks. vec_len marks ≡ count) }
-{
-    let marks = vec![in alloc; false; count]?;
-    Ok(marks)
-}
-
-/// A mark for each 65,536th instruction word: true where some of the regions is entered.
-fn marks_of(alloc: Global, regions: &[Region]) -> Result<Vec<bool>, NoMemory>
-    ensures marks { IfOk result (λ marks. IsTrue (list_all (is_marked marks.items) regions.now)) }
-    ensures count { IfOk result (λ marks. vec_len marks ≡ 65536) }
-{
-    let mut marks = unmarked(alloc, MARKS)?;
+    let mut marks = AddressMarks::new(alloc)?;
     for region in regions {
-        marks[place(region.enter)] = true;
+        marks.mark(region.enter);
     }
     Ok(marks)
 }
@@ -64,7 +45,7 @@ impl MarkedRegions {
     fn is_unmarked(&self, pc: u32) -> bool
         ensures { IsTrue result → entry_at self.now.regions.items pc ≡ None }
     {
-        !self.marks[place(pc)]
+        !self.marks.may_have(pc)
     }
 
     /// Whether one look tells that the turn that a machine makes next is a step outside of regions; else it may be any.

@@ -6,7 +6,6 @@ use Rattle.std.specs.List.{list_all}
 use Rattle.std.proofs.lemmas.Bool.{and_parts, and_from, cases_Bool, cond-false, cond-true}
 use Rattle.std.proofs.lemmas.List.{get_or-set_other}
 use Rattle.std.proofs.lemmas.Grind.{get_or-set_at}
-use Rattle.std.proofs.lemmas.List.Folds.{list_all_more}
 use Rattle.flow_base.specs.declared.points.Point.{Point}
 use Rattle.cut_file.specs.declared.points.CutPoint.{CutPoint}
 use Rattle.flow_base.specs.Points.{is_slot, width_of}
@@ -15,10 +14,11 @@ use Rattle.flow_base.specs.PointOrders.{is_same}
 use Rattle.cut_file.specs.Cuts.{are_points, is_cut_point}
 use Rattle.cut_file.specs.Masks.{MaskAt, listed_masks, mask_of, repeated}
 use Rattle.crossing_bits.proofs.Feeding.{le_or_lt}
+use Rattle.region_machine.specs.AddressMarks.{has_mark}
 use Rattle.replay_machine.specs.declared.cursors.Cursor.{Cursor}
 use Rattle.replay_machine.specs.Runs.{Masks, times_passed, mask_at}
 use Rattle.replay_machine.specs.Visits.{IsAhead, MovesOn, SameAhead}
-use Rattle.replay_machine.specs.Tables.{first_cursor, ahead_of, all_ahead, index_from, is_marked, mark_place}
+use Rattle.replay_machine.specs.Tables.{first_cursor, ahead_of, all_ahead, index_from, is_marked}
 use Rattle.replay_machine.proofs.RunsAhead.{masked, list_pass}
 use Rattle.cut_file.proofs.Repeats.{masks_ended}
 
@@ -329,42 +329,8 @@ first_ahead points cursors e = λ point visit first.
 
 -- ---- the marks
 
-marked_more : (marks : List Bool) (place : ℕ) (q : CutPoint) → place < length marks → is_marked marks q ≡ true →
-    is_marked (slice_set marks place true) q ≡ true
-marked_more marks place q inside marked = elim (le_or_lt place (mark_place q.point.address)) [
-  | inr above ↦ get_or-set_other marks place (mark_place q.point.address) true false (omega (arith, above)) ∙ marked
-  | inl low ↦ elim (le_or_lt (mark_place q.point.address) place) [
-    | inl high ↦ get_or-set_at marks place (mark_place q.point.address) true false (omega (arith, low, high)) inside
-    | inr below ↦ get_or-set_other marks place (mark_place q.point.address) true false (omega (arith, below)) ∙ marked
-  ]
-]
-
-marked_all : (marks : List Bool) (place : ℕ) (points : List CutPoint) → place < length marks →
-    list_all (is_marked marks) points ≡ true → list_all (is_marked (slice_set marks place true)) points ≡ true
-marked_all marks place [] inside known = refl
-marked_all marks place (q ∷ points) inside known =
-    let both = and_parts (is_marked marks q) (list_all (is_marked marks) points) known in
-    and_from _ _ (marked_more marks place q inside both.0) (marked_all marks place points inside both.1)
-
-pub clear_mark : (marks : List Bool) (i j : ℕ) (b : Bool) → b ≡ get_or marks i b → b ≡ false → i ≡ j →
-    get_or marks j false ≡ false
-clear_mark marks i j true is clear at = absurd (cc)
-clear_mark marks i j false is clear at = ap (λ (k : ℕ). get_or marks k false) (sym at) ∙ sym is
-
--- one more point is marked
-pub mark_one : (marks : List Bool) (place : ℕ) (points : List CutPoint) (i : ℕ) (q : CutPoint) → place < length marks →
-    i < length points → q ≡ get_or points i q → place ≡ mark_place q.point.address →
-    list_all (is_marked marks) (take i points) ≡ true →
-    list_all (is_marked (slice_set marks place true)) (take (i + 1) points) ≡ true
-mark_one marks place points i q inside more is at known =
-    let here : is_marked (slice_set marks place true) (get_or points i q) ≡ true =
-    ap (λ (r : CutPoint). is_marked (slice_set marks place true) r) (sym is)
-    ∙ get_or-set_at marks place (mark_place q.point.address) true false (sym at) inside in
-    list_all_more (is_marked (slice_set marks place true)) points i q more
-    ∙ and_from _ _ (marked_all marks place (take i points) inside known) here
-
 pub unmarked_none : (n : ℕ) (marks : List Bool) (points : List CutPoint) (point : Point) →
-    list_all (is_marked marks) points ≡ true → get_or marks (mark_place point.address) false ≡ false →
+    list_all (is_marked marks) points ≡ true → has_mark marks point.address ≡ false →
     index_from n points point ≡ None
 unfolding index_from
 unmarked_none n marks [] point all clear = refl
@@ -373,7 +339,7 @@ unmarked_none n marks (q ∷ points) point all clear =
     elim (cases_Bool (is_same q.point point)) [
       | inl same ↦
           let address : q.point.address ≡ point.address = ap (λ (p : Point). p.address) (one_if_same q.point point same) in
-          let marked : get_or marks (mark_place point.address) false ≡ true = rw address at both.0 in
+          let marked : has_mark marks point.address ≡ true = rw address at both.0 in
           absurd (cc)
       | inr other ↦
           cond-false (is_same q.point point) (Some n) (index_from (suc n) points point) other

@@ -1,10 +1,10 @@
 -- What a table of masks holds: for each point of a cut where its masks have come to, and which addresses are named.
-use Rattle.std.specs.Prelude.{ℕ, suc, ◌/◌, ◌%◌, List, [], ◌∷◌, drop, slice_index_or, Bool, false, Option, Some, None}
-use Rattle.std.specs.Prelude.{if◌then◌else◌}
+use Rattle.std.specs.Prelude.{ℕ, suc, List, [], ◌∷◌, drop, Bool, false, Option, Some, None, if◌then◌else◌}
 use Rattle.flow_base.specs.declared.points.Point.{Point}
 use Rattle.cut_file.specs.declared.points.CutPoint.{CutPoint}
 use Rattle.cut_file.specs.declared.points.Run.{Run}
 use Rattle.flow_base.specs.PointOrders.{is_same}
+use Rattle.region_machine.specs.AddressMarks.{has_mark}
 use Rattle.replay_machine.specs.declared.cursors.Cursor.{Cursor}
 
 -- at the start no run has begun
@@ -38,9 +38,6 @@ index_from index (cut_point ∷ points) point =
 abbrev pub index_of : List CutPoint → Point → Option ℕ
 index_of points point = index_from 0 points point
 
--- the addresses of instructions are marked by words, 65,536 of them apart
-abbrev pub mark_place : ℕ → ℕ
-mark_place address = address / 4 % 65536
-
+-- the address of the point is marked
 abbrev pub is_marked : List Bool → CutPoint → Bool
-is_marked marks cut_point = slice_index_or marks (mark_place cut_point.point.address) false
+is_marked marks cut_point = has_mark marks cut_point.point.address

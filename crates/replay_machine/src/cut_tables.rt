@@ -1,18 +1,19 @@
 ghost use Rattle.std.specs.Prelude.{◌≡◌, [], ℕ, ◌≤◌, true, false, length, replicate, vec_len, IfOk, IsTrue, Some, None};
+ghost use Rattle.std.specs.List.{list_all};
 ghost use Rattle.flow_base.specs.declared.points.Point.{Point as ThePoint};
 ghost use Rattle.flow_base.specs.Points.{is_slot, width_of};
 ghost use Rattle.cut_file.specs.Cuts.{are_points};
 ghost use Rattle.cut_file.specs.Masks.{MaskAt};
 ghost use Rattle.replay_machine.specs.Visits.{MovesOn, SameAhead};
-ghost use Rattle.replay_machine.specs.Tables.{all_ahead, first_cursor, index_of};
+ghost use Rattle.replay_machine.specs.Tables.{all_ahead, first_cursor, index_of, is_marked};
 
 use crate::copies::{cut_points, first_cursors};
 use crate::cursors::Cursor;
 use crate::equality::are_same_points;
-use crate::marking::{marks_of, place};
 use crate::search::find;
 use cut_file::{Cut, CutPoint};
 use flow_base::{NoMemory, Point};
+use region_machine::AddressMarks;
 use std::alloc::Global;
 use std::marker::Model;
 
@@ -21,11 +22,11 @@ use std::marker::Model;
 #[derive(Drop)]
 pub struct CutTable {
     points: Vec<CutPoint>,
-    marks: Vec<bool>,
+    marks: AddressMarks,
 }
 
 impl Model for CutTable {
-    ghost use Rattle.std.specs.Prelude.{◌≡◌, List as Seq, IsTrue, vec_len};
+    ghost use Rattle.std.specs.Prelude.{List as Seq, IsTrue};
     ghost use Rattle.std.specs.List.{list_all};
     ghost use Rattle.cut_file.specs.declared.points.CutPoint.{CutPoint as TheCutPoint};
     ghost use Rattle.cut_file.specs.Cuts.{are_points};
@@ -35,8 +36,19 @@ impl Model for CutTable {
 
     ghost view = { λ t. t.points.items };
 
-    ghost invariant = { λ t. IsTrue (are_points t.points.items) × (vec_len t.marks ≡ 65536)
-        × IsTrue (list_all (is_marked t.marks.items) t.points.items) };
+    ghost invariant = { λ t. IsTrue (are_points t.points.items)
+        × IsTrue (list_all (is_marked t.marks) t.points.items) };
+}
+
+/// The marks of the addresses that the points have.
+fn marks_of(alloc: Global, points: &[CutPoint]) -> Result<AddressMarks, NoMemory>
+    ensures { IfOk result (λ marks. IsTrue (list_all (is_marked marks) points.now)) }
+{
+    let mut marks = AddressMarks::new(alloc)?;
+    for cut_point in points {
+        marks.mark(cut_point.point.address);
+    }
+    Ok(marks)
 }
 
 /// The mask at the next visit of a point that has this index, and then the one after is next.
@@ -106,7 +118,7 @@ impl CutTable {
     pub fn is_marked(&self, address: u32) -> bool
         ensures { result ≡ false → (point : ThePoint) → point.address ≡ address → index_of self.now point ≡ None }
     {
-        self.marks[place(address)]
+        self.marks.may_have(address)
     }
 
     /// Whether the points are the same.

@@ -7,7 +7,6 @@ mod cut_tables;
 mod entries;
 mod equality;
 mod lent_visits;
-mod marking;
 mod marks;
 mod outsides;
 mod playing;

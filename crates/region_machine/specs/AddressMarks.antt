@@ -1,0 +1,6 @@
+-- Marks of the addresses of instructions, one for each word of code modulo 65,536.
+use Rattle.std.specs.Prelude.{ℕ, ◌/◌, ◌%◌, List, Bool, false, slice_index_or}
+
+-- the mark of the address is set
+abbrev pub has_mark : List Bool → ℕ → Bool
+has_mark marks address = slice_index_or marks (address / 4 % 65536) false
