@@ -14,19 +14,19 @@ use std::alloc::Global;
 use tracked_run::Held;
 use transfer_rules::RuleBook;
 
-/// The masks of a guest whose memory begins at an address: no bit may differ.
-fn no_masks(alloc: Global, base: u32) -> Result<Shadow, NoMemory>
+/// Masks in the place of others, of a guest whose memory begins at an address: no bit may differ.
+fn no_masks(masks: Shadow, base: u32) -> Shadow
     requires { base + memory_size ≤ 2 ^ 32 }
-    ensures masks { IfOk result (λ shadow. map_of shadow ≡ default_map) }
-    ensures base { IfOk result (λ shadow. shadow.base ≡ base) }
+    ensures masks { map_of result ≡ default_map }
+    ensures base { result.base ≡ base }
 {
-    let shadow = Shadow::new(alloc, base)?;
-    Ok(shadow)
+    Shadow::new_in(masks, base)
 }
 
-/// The masks of a guest whose memory begins at an address, before its first turn: no bit may differ, and none has crossed.
-/// `NoMemory` where there is not enough.
+/// The masks of a guest whose memory begins at an address, in the place of others, before its first turn: no bit may
+/// differ, and none has crossed. `NoMemory` where there is not enough.
 pub(crate) fn beginning<'b>(
+    masks: Shadow,
     alloc: Global,
     base: u32,
     cut: &Cut,
@@ -45,7 +45,7 @@ pub(crate) fn beginning<'b>(
     ensures look { IfOk result (λ side. side.look ≡ None) }
     ensures left { IfOk result (λ side. side.left ≡ None) }
 {
-    let shadow = no_masks(alloc, base)?;
+    let shadow = no_masks(masks, base);
     let tally = Tallying::new(alloc, cut, budget)?;
     Ok(Clearing {
         shadow,

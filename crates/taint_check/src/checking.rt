@@ -3,12 +3,13 @@ ghost use Rattle.elf32_loader.specs.Images.{image_picture};
 ghost use Rattle.cut_file.specs.Pictures.{cut_picture};
 ghost use Rattle.lockstep_replay.specs.Tasks.{Task, Limits, task_of};
 ghost use Rattle.taint_check.specs.Laws.{IsAcceptedIfClean};
-ghost use Rattle.taint_check.specs.Tainted.{IsClean, IsVerdict, exit_of, finding_of};
+ghost use Rattle.taint_check.specs.Tainted.{IsClean, IsUnclear, IsVerdict, exit_of, finding_of};
 ghost use Rattle.taint_check.specs.Private.Tapes.{tape_of};
 ghost use Rattle.taint_check.specs.Private.Turns.{Begins, IsReady};
 
 use crate::beginning::beginning;
 use crate::clearing::Clearing;
+use crate::masked_memory::MaskedMemory;
 use crate::turns::make_turn;
 use crate::verdicts::TaintVerdict;
 use crate::whys::TaintWhy;
@@ -34,21 +35,36 @@ fn exit_status(mode: Stepped) -> Option<u8>
     }
 }
 
-/// The verdict of a run that has exited with this status.
-fn clean(machine: Machine, side: Clearing<'_>, status: u8) -> TaintVerdict
-    ensures { finding_of result ≡ IsClean side.entry.tally.bits.bits
+/// The verdict of a run that has exited with this status, with the memory for the next check.
+fn clean(machine: Machine, side: Clearing<'_>, status: u8) -> (TaintVerdict, MaskedMemory)
+    ensures { finding_of result.0 ≡ IsClean side.entry.tally.bits.bits
         (record { bytes = machine.control.output; status = status }) }
 {
-    let Clearing { tally, .. } = side;
+    let Clearing { shadow, tally, .. } = side;
     let Tallying { bits, .. } = tally;
-    let output = Output {
-        bytes: machine.into_output(),
-        status,
+    let (bytes, guest) = machine.into_parts();
+    let output = Output { bytes, status };
+    let memory = MaskedMemory {
+        guest,
+        masks: shadow,
     };
-    TaintVerdict::Clean { bits, output }
+    (TaintVerdict::Clean { bits, output }, memory)
 }
 
-/// The verdict of so many turns of the run.
+/// The verdict of a run that is unclear for a reason, with the memory for the next check.
+fn unclear(machine: Machine, side: Clearing<'_>, why: TaintWhy) -> (TaintVerdict, MaskedMemory)
+    ensures { finding_of result.0 ≡ IsUnclear why }
+{
+    let Clearing { shadow, .. } = side;
+    let (_output, guest) = machine.into_parts();
+    let memory = MaskedMemory {
+        guest,
+        masks: shadow,
+    };
+    (TaintVerdict::Unclear(why), memory)
+}
+
+/// The verdict of so many turns of the run, with the memory for the next check.
 /// `NoMemory` where there is not enough.
 fn run_turns(
     machine: Machine,
@@ -56,30 +72,33 @@ fn run_turns(
     marked: &MarkedRegions,
     skip: &[u16],
     turns: u32,
-) -> Result<TaintVerdict, NoMemory>
+) -> Result<(TaintVerdict, MaskedMemory), NoMemory>
     requires { IsReady marked.now.regions.items machine (tape_of side.book.now.table side.shadow side.tally
         side.look side.left) }
-    ensures { IfOk result (λ verdict. (task : Task) (limits : Limits) (secret : Seq ℕ) →
+    ensures { IfOk result (λ made. (task : Task) (limits : Limits) (secret : Seq ℕ) →
         Begins task limits secret machine (tape_of side.entry.book.now.table side.entry.shadow side.entry.tally
         side.entry.look side.entry.left) marked.now.regions.items skip.now → turns ≡ limits.turns →
         length secret ≡ task.secret_length →
-        IsVerdict side.entry.book.now.table task limits secret (finding_of verdict)) }
+        IsVerdict side.entry.book.now.table task limits secret (finding_of made.0)) }
 {
     let mut machine = machine;
     let mut side = side;
     for _ in 0..turns {
         if let Some(why) = make_turn(&mut machine, &mut side, marked, skip)? {
-            return Ok(TaintVerdict::Unclear(why));
+            return Ok(unclear(machine, side, why));
         }
         if let Some(status) = exit_status(machine.mode()) {
             return Ok(clean(machine, side, status));
         }
     }
-    Ok(TaintVerdict::Unclear(TaintWhy::TurnLimit { limit: turns }))
+    let why = TaintWhy::TurnLimit { limit: turns };
+    Ok(unclear(machine, side, why))
 }
 
-/// The verdict of a check of one secret. `NoMemory` where there is not enough.
+/// The verdict of a check of one secret in this memory, and the memory for the next check. `NoMemory` where there is not
+/// enough.
 fn checked(
+    memory: MaskedMemory,
     alloc: Global,
     image: &Image,
     public: &Bytes,
@@ -89,22 +108,24 @@ fn checked(
     book: &RuleBook,
     budget: u32,
     turns: u32,
-) -> Result<TaintVerdict, NoMemory>
+) -> Result<(TaintVerdict, MaskedMemory), NoMemory>
     requires secret { length secret.now < 2 ^ 32 }
     requires budget { budget < 4294967295 }
-    ensures { IfOk result (λ verdict. IsVerdict book.now.table
+    ensures { IfOk result (λ made. IsVerdict book.now.table
         (task_of (image_picture image.now) public.now regions.now.items (cut_picture cut.now))
-        (record { budget = budget; turns = turns }) secret.now (finding_of verdict)) }
+        (record { budget = budget; turns = turns }) secret.now (finding_of made.0)) }
 {
     let got = secret.len() as u32;
     if got != cut.secret_len {
-        return Ok(TaintVerdict::Unclear(TaintWhy::SecretLength {
+        let why = TaintWhy::SecretLength {
             cut: cut.secret_len,
             got,
-        }));
+        };
+        return Ok((TaintVerdict::Unclear(why), memory));
     }
-    let machine = Machine::new(alloc, image, public, secret, OUTPUT_LIMIT)?;
-    let side = beginning(alloc, image.base, cut, book, budget)?;
+    let MaskedMemory { guest, masks } = memory;
+    let machine = Machine::new_in(guest, alloc, image, public, secret, OUTPUT_LIMIT)?;
+    let side = beginning(masks, alloc, image.base, cut, book, budget)?;
     let marked = MarkedRegions::new(alloc, copy_regions(alloc, regions)?)?;
     run_turns(machine, side, &marked, cut.skip.as_slice(), turns)
 }
@@ -134,9 +155,40 @@ pub fn taint(
         (task_of (image_picture image.now) public.now regions.now.items (cut_picture cut.now))
         (record { budget = budget; turns = turns }) secret.now (finding_of verdict)) }
 {
+    let memory = MaskedMemory::new(alloc, image.base)?;
+    let (verdict, _memory) = taint_in(
+        memory, alloc, image, public, secret, regions, cut, book, budget, turns,
+    )?;
+    Ok(verdict)
+}
+
+/// The same check in the memory that another one has handed out, whatever its guest was: nothing of it is left, so the
+/// verdict is that of a fresh start. It takes the time of what that check has written in place of 16 MiB and their masks.
+/// It hands the memory out again. `NoMemory` where there is not enough; the memory is then freed.
+pub fn taint_in(
+    memory: MaskedMemory,
+    alloc: Global,
+    image: &Image,
+    public: &Bytes,
+    secret: &Bytes,
+    regions: &Regions,
+    cut: &Cut,
+    book: &RuleBook,
+    budget: u32,
+    turns: u32,
+) -> Result<(TaintVerdict, MaskedMemory), NoMemory>
+    requires secret { length secret.now < 2 ^ 32 }
+    requires budget { budget < 4294967295 }
+    ensures verdict { IfOk result (λ made. IsVerdict book.now.table
+        (task_of (image_picture image.now) public.now regions.now.items (cut_picture cut.now))
+        (record { budget = budget; turns = turns }) secret.now (finding_of made.0)) }
+    ensures accepted { IfOk result (λ made. IsAcceptedIfClean
+        (task_of (image_picture image.now) public.now regions.now.items (cut_picture cut.now))
+        (record { budget = budget; turns = turns }) secret.now (finding_of made.0)) }
+{
     tell_inputs(image, public, secret, regions);
     tell_cut(cut);
     checked(
-        alloc, image, public, secret, regions, cut, book, budget, turns,
+        memory, alloc, image, public, secret, regions, cut, book, budget, turns,
     )
 }

@@ -6,12 +6,14 @@ mod beginning;
 mod checking;
 mod clearing;
 mod laws;
+mod masked_memory;
 mod reasons;
 mod turns;
 mod verdicts;
 mod whys;
 
-pub use checking::taint;
+pub use checking::{taint, taint_in};
 pub use laws::{clean_secrets_are_accepted, verdicts_are_one};
+pub use masked_memory::MaskedMemory;
 pub use verdicts::TaintVerdict;
 pub use whys::TaintWhy;

@@ -17,23 +17,25 @@ use cut_file::Cut;
 use flow_base::{Bytes, NoMemory};
 use leak_report::taken_line;
 use std::alloc::Global;
-use taint_check::{TaintVerdict, TaintWhy, taint};
+use taint_check::{MaskedMemory, TaintVerdict, TaintWhy, taint_in};
 use transfer_rules::RuleBook;
 
-/// What is found of a secret, from a fresh start of the guest.
-fn find(
+/// What is found of a secret, in the memory of another one, and this for the next one.
+fn find_in(
+    memory: MaskedMemory,
     alloc: Global,
     guest: &Guest,
     cut: &Cut,
     secret: &Bytes,
     limits: Limits,
     book: &RuleBook,
-) -> Result<TaintVerdict, NoMemory>
+) -> Result<(TaintVerdict, MaskedMemory), NoMemory>
     requires short { length secret.now ≤ 65536 }
-    ensures { IfOk result (λ verdict. IsFinding book.now.table (judged_by (guest_in guest.now) (cut_picture cut.now))
-        (limits_in limits) secret.now (finding_of verdict)) }
+    ensures { IfOk result (λ found. IsFinding book.now.table (judged_by (guest_in guest.now) (cut_picture cut.now))
+        (limits_in limits) secret.now (finding_of found.0)) }
 {
-    taint(
+    taint_in(
+        memory,
         alloc,
         &guest.image,
         guest.public_input,
@@ -82,7 +84,7 @@ struct Lines {
     clean: usize,
 }
 
-/// The lines of secrets, each followed from a fresh start.
+/// The lines of secrets, each followed from a fresh start, one after another in the same memory.
 fn lines_of(
     alloc: Global,
     guest: &Guest,
@@ -98,8 +100,10 @@ fn lines_of(
 {
     let mut text = Vec::new(alloc);
     let mut clean = 0;
+    let mut memory = MaskedMemory::new(alloc, guest.image.base)?;
     for (place, secret) in secrets.iter().enumerate() {
-        let verdict = find(alloc, guest, cut, secret, limits, book)?;
+        let (verdict, used) = find_in(memory, alloc, guest, cut, secret, limits, book)?;
+        memory = used;
         let line = finding_line(alloc, place + 1, &verdict)?;
         text.extend_from_slice(line.as_slice())?;
         clean += clean_by(&verdict);

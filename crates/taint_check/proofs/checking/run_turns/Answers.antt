@@ -25,12 +25,13 @@ returns-in-Some g c = λ task limits secret begins limit same.
     let new = c.make_turn.new.side in
     let going = c.loop.invariant.going task limits secret begins in
     let below : c.loop.counter < limits.turns = subst (λ n. c.loop.counter < n) limit c.loop-test.true in
-    subst (λ t. IsVerdict t task limits secret (IsUnclear c.in-Some.why)) c.loop.invariant.table
+    subst (λ f. IsVerdict c.args.side.book.now.table task limits secret f) (sym c.unclear.ensures)
+    (subst (λ t. IsVerdict t task limits secret (IsUnclear c.in-Some.why)) c.loop.invariant.table
     (verdict-unclear side.book.now.table task limits secret c.loop.counter c.loop.machine
     (tape_of side.book.now.table side.shadow side.tally side.look side.left) going c.make_turn.new.machine
     (tape_of new.book.now.table new.shadow new.tally new.look new.left) c.in_ok-why.field-0
     (c.in_ok-why.ensures.makes task limits (Cleared task secret going.answers) (Cross task secret (length going.answers))
-    begins.enclosures going.stands) c.in-Some.why c.in-Some.is below same)
+    begins.enclosures going.stands) c.in-Some.why c.in-Some.is below same))
 
 pub returns-in-Some-exit_status : goal.returns-in-Some-exit_status
 returns-in-Some-exit_status g c = λ task limits secret begins limit same.
@@ -77,7 +78,8 @@ pub returns : goal.returns
 returns g c = λ task limits secret begins limit same.
     let side = c.loop.side in
     let all : c.loop.counter ≡ limits.turns = omega (arith, limit) in
-    subst (λ t. IsVerdict t task limits secret (IsUnclear (TurnLimit c.args.turns))) c.loop.invariant.table
+    subst (λ f. IsVerdict c.args.side.book.now.table task limits secret f) (sym c.unclear-2.ensures)
+    (subst (λ t. IsVerdict t task limits secret (IsUnclear (TurnLimit c.args.turns))) c.loop.invariant.table
     (verdict_limit side.book.now.table task limits secret c.loop.counter c.args.turns c.loop.machine
     (tape_of side.book.now.table side.shadow side.tally side.look side.left)
-    (c.loop.invariant.going task limits secret begins) all limit same)
+    (c.loop.invariant.going task limits secret begins) all limit same))

@@ -10,7 +10,7 @@ use Rattle.lockstep_replay.specs.Tasks.{Limits, task_of}
 use Rattle.taint_check.specs.Laws.{IsAcceptedIfClean}
 use Rattle.taint_check.specs.Tainted.{Finding, IsClean, IsUnclear, IsVerdict, finding_of}
 use Rattle.taint_check.proofs.CleanSecrets.{clean_law}
-use Rattle.taint_check.proofs.checking.taint.Goals as goal
+use Rattle.taint_check.proofs.checking.taint_in.Goals as goal
 
 accepted : (table : ℕ) (program : Picture) (public_input : List ℕ) (regions : List Region) (secret : List ℕ)
     (cut : CutPicture) (limits : Limits) (finding : Finding) → AreInputs program public_input regions secret →
@@ -23,8 +23,8 @@ accepted table program public_input regions secret cut limits (IsUnclear why) in
 pub returns-clause-accepted : goal.returns-clause-accepted
 returns-clause-accepted g c =
     IfOk-weaker c.checked.result _ _
-    (λ verdict is. accepted c.args.book.now.table (image_picture c.args.image.now) c.args.public.now
+    (λ made is. accepted c.args.book.now.table (image_picture c.args.image.now) c.args.public.now
     c.args.regions.now.items c.args.secret.now (cut_picture c.args.cut.now)
-    (record { budget = c.args.budget; turns = c.args.turns }) (finding_of verdict) c.tell_inputs.ensures
+    (record { budget = c.args.budget; turns = c.args.turns }) (finding_of made.0) c.tell_inputs.ensures
     c.tell_cut.ensures is)
     c.checked.ensures
