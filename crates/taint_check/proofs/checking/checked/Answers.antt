@@ -17,7 +17,7 @@ returns-then-got-cut g c =
 pub returns : goal.returns
 returns g c =
     let marked : c.in_ok-marked.marked.regions.items ≡ c.args.regions.now.items =
-      ap (λ r. r.items) c.in_ok-marked.ensures ∙ c.in_ok-copy_regions.ensures in
+    ap (λ r. r.items) c.in_ok-marked.ensures ∙ c.in_ok-copy_regions.ensures in
     IfOk-weaker c.run_turns.result _ _
     (λ made is. subst (λ table. IsVerdict table
     (task_of (image_picture c.args.image.now) c.args.public.now c.args.regions.now.items (cut_picture c.args.cut.now))
