@@ -10,7 +10,7 @@ use Rattle.command_line.specs.declared.tellings.Telling.{Telling}
 use Rattle.command_line.specs.declared.tellings.Telling.TheVariants.{CutText, Report, Declaration}
 use Rattle.command_line.specs.declared.tellings.Telling.TheVariants as telling
 use Rattle.command_line.specs.CommandLines.{Command}
-use Rattle.every_secret.specs.Bounds.{Answer as BoundAnswer, IsBounded, IsUnclear}
+use Rattle.every_secret.specs.Bounds.{IsBounded, IsUnclear, TreeAnswer}
 use Rattle.command_tasks.specs.declared.refusals.Refusal.{Refusal}
 use Rattle.command_tasks.specs.declared.refusals.Refusal.TheVariants.{Usage, Load, Program, Regions, Cut, Source}
 use Rattle.command_tasks.specs.declared.refusals.Refusal.TheVariants.{Certificate, Run, Runs, Learn, TooLarge, Memory}
@@ -156,7 +156,7 @@ check_made : (judging : Judging) (task : CheckTask) (answer : Answer) → Answer
 check_made Replay task answer e = inl (low_as answer _ e (low_either _))
 check_made (Masks table) task answer (findings, are, e) = inl (low_as answer _ e (low_either _))
 
-bound_made : (all : AllSecretsTask) (known : BoundAnswer) (answer : Answer) → AnswersBound all known answer →
+bound_made : (all : AllSecretsTask) (known : TreeAnswer) (answer : Answer) → AnswersBound all known answer →
     IsMade answer
 bound_made all (IsBounded found) answer (tells, (bits, least, e)) = inl (low_as answer _ e (omega arith))
 bound_made all (IsUnclear bits why) answer e = inl (low_as answer _ e (omega arith))

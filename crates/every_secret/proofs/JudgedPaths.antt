@@ -11,7 +11,7 @@ use Rattle.flow_base.specs.declared.outputs.Output.{Output}
 use Rattle.every_secret.specs.declared.path_ends.PathEnd.{PathEnd}
 use Rattle.every_secret.specs.declared.path_ends.PathEnd.TheVariants.{Exits, Stops, Unclear}
 use Rattle.every_secret.specs.declared.patterns.Pattern.{Pattern}
-use Rattle.every_secret.specs.Bounds.{Answer, Found, IsBounded, after_end, found_exit, found_stop}
+use Rattle.every_secret.specs.Bounds.{TreeAnswer, Found, IsBounded, after_end, found_exit, found_stop}
 use Rattle.every_secret.specs.Bounds.{free_bits, is_same_pattern, judged, output_count, pattern_limit, size_of}
 use Rattle.every_secret.specs.Bounds.{unless_large, with_pattern}
 use Rattle.every_secret.specs.Listed.{IsListed, StandsFor}
@@ -135,7 +135,7 @@ pub record AreJudged (found last : Found) (paths : List Path) : Type 0 where
   pub words : AllByRecursion HasWords found.patterns → PathsEnd EndsInWords paths →
       AllByRecursion HasWords last.patterns
 
-is_small : (large : Bool) (bits : List Bool) (later : Answer) (last : Found) →
+is_small : (large : Bool) (bits : List Bool) (later : TreeAnswer) (last : Found) →
     unless_large large bits later ≡ IsBounded last → later ≡ IsBounded last
 is_small true bits later last h = absurd (cc)
 is_small false bits later last h = h

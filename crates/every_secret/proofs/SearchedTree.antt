@@ -10,7 +10,7 @@ use Rattle.every_secret.specs.declared.verdicts.Bounded.{Bounded}
 use Rattle.every_secret.specs.declared.verdicts.BoundVerdict.TheVariants as verdict
 use Rattle.every_secret.specs.declared.whys.UnclearWhy.{UnclearWhy}
 use Rattle.crossing_bits.specs.Streams.{Stream}
-use Rattle.every_secret.specs.Bounds.{Answer, IsVerdict, Shows}
+use Rattle.every_secret.specs.Bounds.{TreeAnswer, IsVerdict, Shows}
 use Rattle.every_secret.specs.Paths.{Opens}
 use Rattle.every_secret.specs.Rules.{Rules}
 use Rattle.every_secret.specs.Private.Orders.{earlier}
@@ -85,14 +85,14 @@ module _ (terms : Terms) (task : Task) (small : terms.budget < 4294967295)
     done_verdict step bounded is steps shows rules answers holds =
         let found = shows (basis_of rules task terms.budget terms.turns)
         (steps_to step Done is steps rules answers holds) in
-        subst (λ (a : Answer). Shows (verdict.Bounded bounded) a) (sym found.2) found.1
+        subst (λ (a : TreeAnswer). Shows (verdict.Bounded bounded) a) (sym found.2) found.1
 
     -- the path is unclear
     pub unclear_verdict : (step : Step) (path : Stream) (why : UnclearWhy) → step ≡ Answered why → Steps step →
         path ≡ after.stream → (rules : Rules) → AreRulesOf terms.ruling rules → Holds →
         IsVerdict rules task limits limit (verdict.Unclear path why)
     unclear_verdict step path why is steps same rules answers holds =
-        subst (λ (a : Answer). Shows (verdict.Unclear path why) a)
+        subst (λ (a : TreeAnswer). Shows (verdict.Unclear path why) a)
         (sym (steps_to step (Answered why) is steps rules answers holds)) (ap (λ (s : Stream). s.bits) same, refl)
 
     -- there are too many

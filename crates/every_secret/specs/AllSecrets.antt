@@ -6,7 +6,7 @@ use Rattle.flow_base.specs.declared.outputs.Output.{Output}
 use Rattle.acceptance_law.specs.Proper.{AreBytes}
 use Rattle.lockstep_replay.specs.Acceptance.{Accept, HasExited}
 use Rattle.lockstep_replay.specs.Tasks.{Limits, Task, real_of}
-use Rattle.every_secret.specs.Bounds.{Answer, Found, IsBounded, IsUnclear, output_count}
+use Rattle.every_secret.specs.Bounds.{TreeAnswer, Found, IsBounded, IsUnclear, output_count}
 use Rattle.every_secret.specs.Listed.{IsListed}
 
 -- a secret of the length that the cut names
@@ -39,6 +39,6 @@ pub record AreAll (task : Task) (limits : Limits) (found : Found) : Type 0 where
       (output : Output) × Gives task limits secret output
 
 -- where the answer is bounded, it tells of all secrets
-abbrev pub TellsAll : Task → Limits → Answer → Type 0
+abbrev pub TellsAll : Task → Limits → TreeAnswer → Type 0
 TellsAll task limits (IsBounded found) = AreAll task limits found
 TellsAll task limits (IsUnclear bits why) = Unit {0}

@@ -12,7 +12,7 @@ use Rattle.lockstep_replay.specs.Tasks.{Limits, Task}
 use Rattle.every_secret.specs.declared.public_inputs.PublicInput.{PublicInput}
 use Rattle.every_secret.specs.declared.public_inputs.PublicInput.TheVariants.{Given, Any}
 use Rattle.every_secret.specs.AllSecrets.{Gives, IsSecret, TellsAll}
-use Rattle.every_secret.specs.Bounds.{Answer, Found, IsBounded, IsUnclear, output_count}
+use Rattle.every_secret.specs.Bounds.{TreeAnswer, Found, IsBounded, IsUnclear, output_count}
 use Rattle.every_secret.specs.Listed.{IsListed}
 use Rattle.every_secret.specs.Rules.{public_mask}
 
@@ -101,7 +101,7 @@ pub record AreAllPairs (task : Task) (limits : Limits) (found : Found) : Type 0 
       (outputs : List Output) × ((length outputs ≡ runs) × AreRuns task limits rule secret [] outputs)
 
 -- what a bounded answer tells, where so much is known of the public input
-abbrev pub TellsOf : PublicInput → Task → Limits → Answer → Type 0
+abbrev pub TellsOf : PublicInput → Task → Limits → TreeAnswer → Type 0
 TellsOf Given task limits answer = TellsAll task limits answer
 TellsOf Any task limits (IsBounded found) = AreAllPairs task limits found
 TellsOf Any task limits (IsUnclear bits why) = Unit {0}

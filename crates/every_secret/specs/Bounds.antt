@@ -94,16 +94,16 @@ found_stop bits stop found = record {
 
 -- ---- the answer
 
-pub data Answer : Type 0 where
-  IsBounded : Found → Answer
-  IsUnclear : List Bool → UnclearWhy → Answer
+pub data TreeAnswer : Type 0 where
+  IsBounded : Found → TreeAnswer
+  IsUnclear : List Bool → UnclearWhy → TreeAnswer
 
-abbrev pub unless_large : Bool → List Bool → Answer → Answer
+abbrev pub unless_large : Bool → List Bool → TreeAnswer → TreeAnswer
 unless_large true bits later = IsUnclear bits (Outputs pattern_limit)
 unless_large false bits later = later
 
 -- of a path that ends so, where so much is found before, and of the paths that are left
-abbrev pub after_end : PathEnd → Path → Found → (Found → Answer) → Answer
+abbrev pub after_end : PathEnd → Path → Found → (Found → TreeAnswer) → TreeAnswer
 after_end (Unclear why) path found later = IsUnclear path.bits why
 after_end (Stops stop) path found later = later (found_stop path.bits stop found)
 after_end (Exits pattern) path found later =
@@ -111,12 +111,12 @@ after_end (Exits pattern) path found later =
     (later (found_exit pattern found))
 
 -- of these paths, where so much is found before
-unfoldable pub judged : Found → List Path → Answer
+unfoldable pub judged : Found → List Path → TreeAnswer
 judged found [] = IsBounded found
 judged found (path ∷ paths) = after_end path.ends path found (λ next. judged next paths)
 
 -- Bounds: the answer for a task
-abbrev pub Bounds : Rules → Task → Limits → Answer
+abbrev pub Bounds : Rules → Task → Limits → TreeAnswer
 Bounds rules task limits = judged nothing_found (Paths (MaskedReplay rules task limits))
 
 -- ---- the numbers
@@ -160,7 +160,7 @@ summary_in bounded = record {
 }
 
 -- a verdict shows the answer
-abbrev pub Shows : BoundVerdict → Answer → Type 0
+abbrev pub Shows : BoundVerdict → TreeAnswer → Type 0
 Shows (verdict.Bounded bounded) (IsBounded found) = summary_in bounded ≡ summary_of found
 Shows (verdict.Bounded bounded) (IsUnclear bits why) = ⊥
 Shows (verdict.Unclear path why) (IsBounded found) = ⊥

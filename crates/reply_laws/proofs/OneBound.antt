@@ -1,7 +1,7 @@
 -- A bound is one, and so are its number of outputs and the bits that suffice for them: so the answers to `bound` are one
 -- where there are no more paths than walks may be made.
 use Rattle.std.proofs.Common.{◌≡◌, ◌∙◌, ℕ, Ok, inl, inr, refl, sym, ap, arith}
-use Rattle.every_secret.specs.Bounds.{Answer as BoundAnswer, Found, IsBounded, IsLeastPower, IsUnclear, summary_of}
+use Rattle.every_secret.specs.Bounds.{Found, IsBounded, IsLeastPower, IsUnclear, TreeAnswer, summary_of}
 use Rattle.command_tasks.specs.declared.statuses.Status.TheVariants.{Done}
 use Rattle.command_tasks.specs.Tasks.{AllSecretsTask}
 use Rattle.task_answers.specs.AllSecrets.{AnswersAllSecrets, AnswersBound, AnswersTooMany, bound_of, bounded_text}
@@ -15,7 +15,7 @@ one_power outputs a b one other =
     let high = other.least a one.enough in
     omega (arith, low, high)
 
-same_bound : (all : AllSecretsTask) (known : BoundAnswer) (first second : Answer) → AnswersBound all known first →
+same_bound : (all : AllSecretsTask) (known : TreeAnswer) (first second : Answer) → AnswersBound all known first →
     AnswersBound all known second → first ≡ second
 same_bound all (IsBounded found) first second (tells, (a, one, e)) (also, (b, other, f)) =
     e ∙ (ap (λ bits. Ok (record { status = Done; text = bounded_text all (summary_of found) bits })) (one_power _ a b one other)
@@ -31,7 +31,7 @@ bound_same all first second few (inl one) (inl other) = same_bound all (bound_of
 bound_same all first second few (inl one) (inr many) = absurd (few_not_many all second few many)
 bound_same all first second few (inr many) other = absurd (few_not_many all first few many)
 
-completes : (all : AllSecretsTask) (known : BoundAnswer) (answer : Answer) → bound_of all ≡ known →
+completes : (all : AllSecretsTask) (known : TreeAnswer) (answer : Answer) → bound_of all ≡ known →
     AnswersBound all known answer → CompletesBound all (status_of answer)
 completes all (IsBounded found) answer is (tells, (bits, least, e)) =
     let zero : status_of answer ≡ 0 = ap status_of e in

@@ -3,7 +3,7 @@ use Rattle.std.specs.Prelude.{◌≡◌, ◌⊎◌, ◌==◌, ◌++◌, ℕ, Boo
 use Rattle.transfer_rules.specs.Table1.{mask_by_table_1}
 use Rattle.transfer_rules.specs.Table2.{mask_by_table_2}
 use Rattle.transfer_rules.specs.Table3.{mask_by_table_3}
-use Rattle.every_secret.specs.Bounds.{Answer as BoundAnswer, Bounds, HasMorePaths, IsBounded, IsLeastPower, IsUnclear}
+use Rattle.every_secret.specs.Bounds.{Bounds, HasMorePaths, IsBounded, IsLeastPower, IsUnclear, TreeAnswer}
 use Rattle.every_secret.specs.Bounds.{Summary, output_count, summary_of}
 use Rattle.every_secret.specs.declared.public_inputs.PublicInput.{PublicInput}
 use Rattle.every_secret.specs.declared.public_inputs.PublicInput.TheVariants.{Given, Any}
@@ -34,7 +34,7 @@ abbrev pub bound_limits : AllSecretsTask → Limits
 bound_limits all = record { budget = all.settings.budget; turns = all.settings.turns }
 
 -- the bound for all secrets, or for all pairs of a public input and a secret
-abbrev pub bound_of : AllSecretsTask → BoundAnswer
+abbrev pub bound_of : AllSecretsTask → TreeAnswer
 bound_of all =
     Bounds (rules_by all.settings.table (public_of all)) (seen_task (public_of all) (judged_by all.guest all.cut))
     (bound_limits all)
@@ -53,7 +53,7 @@ bounded_text all found bits =
     (length all.guest.regions) found bits
 
 -- what is found tells of all secrets, or pairs, and its text has the least number of bits for its outputs
-abbrev pub AnswersBound : AllSecretsTask → BoundAnswer → Answer → Type 0
+abbrev pub AnswersBound : AllSecretsTask → TreeAnswer → Answer → Type 0
 AnswersBound all (IsBounded found) answer =
     TellsOf (public_of all) (judged_by all.guest all.cut) (bound_limits all) (IsBounded found)
     × ((bits : ℕ) × IsLeastPower (output_count found.patterns) bits

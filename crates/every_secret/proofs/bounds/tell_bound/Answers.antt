@@ -9,7 +9,7 @@ use Rattle.lockstep_replay.specs.Tasks.{Limits, task_of}
 use Rattle.every_secret.specs.declared.public_inputs.PublicInput.{PublicInput}
 use Rattle.every_secret.specs.declared.public_inputs.PublicInput.TheVariants.{Given, Any}
 use Rattle.every_secret.specs.AnyPublic.{TellsOf, seen_task}
-use Rattle.every_secret.specs.Bounds.{Answer, Bounds, IsBounded, IsUnclear}
+use Rattle.every_secret.specs.Bounds.{TreeAnswer, Bounds, IsBounded, IsUnclear}
 use Rattle.every_secret.specs.Rules.{AreSoundRules, Rules}
 use Rattle.every_secret.proofs.AllPairs.{all_pairs}
 use Rattle.every_secret.proofs.EverySecret.{every_secret}
@@ -28,7 +28,7 @@ none_yet program public_input regions secret inputs = record {
 }
 
 tells : (public : PublicInput) (by : Rules) (program : Picture) (public_input : List ℕ) (regions : List Region)
-    (secret : List ℕ) (cut : CutPicture) (limits : Limits) (answer : Answer) → AreSoundRules by → by.public ≡ public →
+    (secret : List ℕ) (cut : CutPicture) (limits : Limits) (answer : TreeAnswer) → AreSoundRules by → by.public ≡ public →
     AreInputs program public_input regions secret → is_cut_picture cut ≡ true → limits.budget < 4294967295 →
     Bounds by (seen_task public (task_of program public_input regions cut)) limits ≡ answer →
     TellsOf public (task_of program public_input regions cut) limits answer
