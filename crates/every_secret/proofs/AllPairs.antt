@@ -19,7 +19,7 @@ use Rattle.acceptance_law.proofs.CoveredRunAccepted.{length_zeros, zero_bytes}
 use Rattle.every_secret.specs.declared.public_inputs.PublicInput.TheVariants.{Any}
 use Rattle.every_secret.specs.AllSecrets.{Gives, IsSecret}
 use Rattle.every_secret.specs.AnyPublic.{AreRuns, AreSeenAs, IsHistory, IsPairGiven, IsPublic, IsRule, with_public}
-use Rattle.every_secret.specs.Bounds.{Bounds, Found, IsBounded, output_count}
+use Rattle.every_secret.specs.Bounds.{BoundOf, Found, IsBounded, output_count}
 use Rattle.every_secret.specs.Laws.{AllPairsLaw, RunLaw}
 use Rattle.every_secret.specs.Listed.{IsListed}
 use Rattle.every_secret.specs.Rules.{AreSoundRules, Rules, public_mask}
@@ -31,7 +31,7 @@ module _ (run : RunLaw) (rules : Rules) (program : Picture) (public_input : List
     (cut : CutPicture) (limits : Limits) (found : Found) (any : rules.public ≡ Any) (sound : AreSoundRules rules)
     (inputs : AreInputs program public_input regions []) (valid : is_cut_picture cut ≡ true)
     (small : limits.budget < 4294967295)
-    (answer : Bounds rules (task_of program (zeros (length public_input)) regions cut) limits ≡ IsBounded found) where
+    (answer : BoundOf rules (task_of program (zeros (length public_input)) regions cut) limits ≡ IsBounded found) where
   abbrev pub task : Task
   task = task_of program public_input regions cut
 

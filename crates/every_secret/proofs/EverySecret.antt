@@ -24,7 +24,7 @@ use Rattle.every_secret.specs.declared.patterns.Pattern.{Pattern}
 use Rattle.every_secret.specs.declared.public_inputs.PublicInput.{PublicInput}
 use Rattle.every_secret.specs.AllSecrets.{Gives, IsGiven, IsSecret}
 use Rattle.every_secret.specs.AnyPublic.{AreSeenAs}
-use Rattle.every_secret.specs.Bounds.{Bounds, Found, IsBounded, nothing_found, output_count}
+use Rattle.every_secret.specs.Bounds.{BoundOf, Found, IsBounded, nothing_found, output_count}
 use Rattle.every_secret.specs.Laws.{AllSecretsLaw, Chooses, EndsPath, IsLost, RunLaw}
 use Rattle.every_secret.specs.Listed.{IsListed, StandsFor}
 use Rattle.every_secret.specs.Paths.{Paths, tree_of}
@@ -81,7 +81,7 @@ unbroken_after enclosures (suc turns) place none whole =
 module _ (run : RunLaw) (rules : Rules) (program : Picture) (seen : List ℕ) (regions : List Region) (cut : CutPicture)
     (limits : Limits) (found : Found) (sound : AreSoundRules rules) (valid : is_cut_picture cut ≡ true)
     (small : limits.budget < 4294967295)
-    (answer : Bounds rules (task_of program seen regions cut) limits ≡ IsBounded found) where
+    (answer : BoundOf rules (task_of program seen regions cut) limits ≡ IsBounded found) where
   abbrev pub walks : Asker PathEnd
   walks = MaskedReplay rules (task_of program seen regions cut) limits
 

@@ -115,9 +115,9 @@ unfoldable pub judged : Found → List Path → TreeAnswer
 judged found [] = IsBounded found
 judged found (path ∷ paths) = after_end path.ends path found (λ next. judged next paths)
 
--- Bounds: the answer for a task
-abbrev pub Bounds : Rules → Task → Limits → TreeAnswer
-Bounds rules task limits = judged nothing_found (Paths (MaskedReplay rules task limits))
+-- BoundOf: the answer for a task
+abbrev pub BoundOf : Rules → Task → Limits → TreeAnswer
+BoundOf rules task limits = judged nothing_found (Paths (MaskedReplay rules task limits))
 
 -- ---- the numbers
 
@@ -174,7 +174,9 @@ pub record HasMorePaths (tree : Tree) (walks : ℕ) (bits : List Bool) : Type 0 
 
 -- a verdict that was found by at most so many walks: it shows the answer, or there are more paths than that
 abbrev pub IsVerdict : Rules → Task → Limits → ℕ → BoundVerdict → Type 0
-IsVerdict rules task limits walks (verdict.Bounded bounded) = Shows (verdict.Bounded bounded) (Bounds rules task limits)
-IsVerdict rules task limits walks (verdict.Unclear path why) = Shows (verdict.Unclear path why) (Bounds rules task limits)
+IsVerdict rules task limits walks (verdict.Bounded bounded) =
+    Shows (verdict.Bounded bounded) (BoundOf rules task limits)
+IsVerdict rules task limits walks (verdict.Unclear path why) =
+    Shows (verdict.Unclear path why) (BoundOf rules task limits)
 IsVerdict rules task limits walks (verdict.TooMany path limit) =
     (limit ≡ walks) × HasMorePaths (tree_of (MaskedReplay rules task limits)) walks path.bits

@@ -15,7 +15,7 @@ use Rattle.every_secret.specs.declared.patterns.Pattern.{Pattern}
 use Rattle.every_secret.specs.declared.public_inputs.PublicInput.TheVariants.{Any}
 use Rattle.every_secret.specs.AllSecrets.{AreAll, Gives, IsSecret}
 use Rattle.every_secret.specs.AnyPublic.{AreAllPairs, AreSeenAs}
-use Rattle.every_secret.specs.Bounds.{Bounds, Found, IsBounded}
+use Rattle.every_secret.specs.Bounds.{BoundOf, Found, IsBounded}
 use Rattle.every_secret.specs.Listed.{StandsFor}
 use Rattle.every_secret.specs.Replays.{MaskedReplay}
 use Rattle.every_secret.specs.Rules.{AreSoundRules, Rules}
@@ -63,7 +63,7 @@ AllSecretsLaw =
     (rules : Rules) (program : Picture) (public_input : List ℕ) (regions : List Region) (cut : CutPicture)
     (limits : Limits) (found : Found) → AreSoundRules rules → AreInputs program public_input regions [] →
     is_cut_picture cut ≡ true → limits.budget < 4294967295 →
-    Bounds rules (task_of program public_input regions cut) limits ≡ IsBounded found →
+    BoundOf rules (task_of program public_input regions cut) limits ≡ IsBounded found →
     AreAll (task_of program public_input regions cut) limits found
 
 -- And where the public input is not known, it tells of all pairs of a public input and a secret.
@@ -72,5 +72,5 @@ AllPairsLaw =
     (rules : Rules) (program : Picture) (public_input : List ℕ) (regions : List Region) (cut : CutPicture)
     (limits : Limits) (found : Found) → rules.public ≡ Any → AreSoundRules rules →
     AreInputs program public_input regions [] → is_cut_picture cut ≡ true → limits.budget < 4294967295 →
-    Bounds rules (task_of program (zeros (length public_input)) regions cut) limits ≡ IsBounded found →
+    BoundOf rules (task_of program (zeros (length public_input)) regions cut) limits ≡ IsBounded found →
     AreAllPairs (task_of program public_input regions cut) limits found

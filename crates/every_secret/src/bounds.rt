@@ -5,7 +5,7 @@ ghost use Rattle.lockstep_replay.specs.Tasks.{task_of};
 ghost use Rattle.replay_machine.specs.Visits.{SameAhead};
 ghost use Rattle.rv32im_machine.specs.Start.{zeros, zeros as zeros_list};
 ghost use Rattle.every_secret.specs.AnyPublic.{TellsOf, seen_input, seen_task};
-ghost use Rattle.every_secret.specs.Bounds.{Bounds, IsVerdict};
+ghost use Rattle.every_secret.specs.Bounds.{BoundOf, IsVerdict};
 ghost use Rattle.every_secret.specs.Rules.{AnswerAs, AreSoundRules, Rules};
 ghost use Rattle.every_secret.specs.Private.Searching.{IsDone, ShowsDone};
 ghost use Rattle.every_secret.specs.Private.Spots.{Basis};
@@ -122,7 +122,7 @@ fn tell_bound(
     requires { budget < 4294967295 }
     ensures { (rules : Rules) → AreSoundRules rules → rules.public ≡ known →
         TellsOf known (task_of (image_picture image.now) public.now regions.now.items (cut_picture cut.now))
-        (record { budget = budget; turns = turns }) (Bounds rules
+        (record { budget = budget; turns = turns }) (BoundOf rules
         (seen_task known (task_of (image_picture image.now) public.now regions.now.items (cut_picture cut.now)))
         (record { budget = budget; turns = turns })) }
 {
@@ -173,7 +173,7 @@ pub fn bound(
         (record { budget = budget; turns = turns }) paths verdict) }
     ensures all { (rules : Rules) → AreSoundRules rules → rules.public ≡ known →
         TellsOf known (task_of (image_picture image.now) public.now regions.now.items (cut_picture cut.now))
-        (record { budget = budget; turns = turns }) (Bounds rules
+        (record { budget = budget; turns = turns }) (BoundOf rules
         (seen_task known (task_of (image_picture image.now) public.now regions.now.items (cut_picture cut.now)))
         (record { budget = budget; turns = turns })) }
 {

@@ -3,7 +3,7 @@ use Rattle.std.specs.Prelude.{◌≡◌, ◌⊎◌, ◌==◌, ◌++◌, ℕ, Boo
 use Rattle.transfer_rules.specs.Table1.{mask_by_table_1}
 use Rattle.transfer_rules.specs.Table2.{mask_by_table_2}
 use Rattle.transfer_rules.specs.Table3.{mask_by_table_3}
-use Rattle.every_secret.specs.Bounds.{Bounds, HasMorePaths, IsBounded, IsLeastPower, IsUnclear, TreeAnswer}
+use Rattle.every_secret.specs.Bounds.{BoundOf, HasMorePaths, IsBounded, IsLeastPower, IsUnclear, TreeAnswer}
 use Rattle.every_secret.specs.Bounds.{Summary, output_count, summary_of}
 use Rattle.every_secret.specs.declared.public_inputs.PublicInput.{PublicInput}
 use Rattle.every_secret.specs.declared.public_inputs.PublicInput.TheVariants.{Given, Any}
@@ -36,7 +36,7 @@ bound_limits all = record { budget = all.settings.budget; turns = all.settings.t
 -- the bound for all secrets, or for all pairs of a public input and a secret
 abbrev pub bound_of : AllSecretsTask → TreeAnswer
 bound_of all =
-    Bounds (rules_by all.settings.table (public_of all)) (seen_task (public_of all) (judged_by all.guest all.cut))
+    BoundOf (rules_by all.settings.table (public_of all)) (seen_task (public_of all) (judged_by all.guest all.cut))
     (bound_limits all)
 
 -- the tree of all paths

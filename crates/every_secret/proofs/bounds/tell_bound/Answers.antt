@@ -9,7 +9,7 @@ use Rattle.lockstep_replay.specs.Tasks.{Limits, task_of}
 use Rattle.every_secret.specs.declared.public_inputs.PublicInput.{PublicInput}
 use Rattle.every_secret.specs.declared.public_inputs.PublicInput.TheVariants.{Given, Any}
 use Rattle.every_secret.specs.AnyPublic.{TellsOf, seen_task}
-use Rattle.every_secret.specs.Bounds.{TreeAnswer, Bounds, IsBounded, IsUnclear}
+use Rattle.every_secret.specs.Bounds.{TreeAnswer, BoundOf, IsBounded, IsUnclear}
 use Rattle.every_secret.specs.Rules.{AreSoundRules, Rules}
 use Rattle.every_secret.proofs.AllPairs.{all_pairs}
 use Rattle.every_secret.proofs.EverySecret.{every_secret}
@@ -30,7 +30,7 @@ none_yet program public_input regions secret inputs = record {
 tells : (public : PublicInput) (by : Rules) (program : Picture) (public_input : List ℕ) (regions : List Region)
     (secret : List ℕ) (cut : CutPicture) (limits : Limits) (answer : TreeAnswer) → AreSoundRules by → by.public ≡ public →
     AreInputs program public_input regions secret → is_cut_picture cut ≡ true → limits.budget < 4294967295 →
-    Bounds by (seen_task public (task_of program public_input regions cut)) limits ≡ answer →
+    BoundOf by (seen_task public (task_of program public_input regions cut)) limits ≡ answer →
     TellsOf public (task_of program public_input regions cut) limits answer
 tells Given by program public_input regions secret cut limits (IsBounded found) sound known inputs valid small is =
     every_secret run_law by program public_input regions cut limits found sound
@@ -47,5 +47,5 @@ returns c = λ by sound known.
     (cut_picture c.args.cut.now) in
     let limits : Limits = record { budget = c.args.budget; turns = c.args.turns } in
     tells c.args.known by (image_picture c.args.image.now) c.args.public.now c.args.regions.now.items _
-    (cut_picture c.args.cut.now) limits (Bounds by (seen_task c.args.known task) limits) sound known c.tell_inputs.ensures
+    (cut_picture c.args.cut.now) limits (BoundOf by (seen_task c.args.known task) limits) sound known c.tell_inputs.ensures
     c.tell_cut.ensures c.requires refl

@@ -1,7 +1,7 @@
 use Rattle.std.proofs.Common.{◌∙◌, subst, sym}
 use Rattle.std.proofs.lemmas.Result.{IfOk-weaker}
 use Rattle.every_secret.specs.AnyPublic.{TellsOf, seen_task}
-use Rattle.every_secret.specs.Bounds.{Bounds, IsVerdict}
+use Rattle.every_secret.specs.Bounds.{BoundOf, IsVerdict}
 use Rattle.every_secret.specs.Rules.{AnswerAs}
 use Rattle.command_tasks.specs.ReadTasks.{all_secrets_in}
 use Rattle.task_answers.specs.AllSecrets.{bound_limits, public_of, rules_by}
@@ -33,6 +33,6 @@ returns-clause-all g c =
     let task = judged_by (all_secrets_in c.args.all.now).guest (all_secrets_in c.args.all.now).cut in
     let rules = table_rules c.tables_have_rules.ensures c.tables_are_sound.ensures table public known.first known.last in
     subst (λ p. TellsOf p task (bound_limits (all_secrets_in c.args.all.now))
-    (Bounds (rules_by table public) (seen_task p task)
+    (BoundOf (rules_by table public) (seen_task p task)
     (bound_limits (all_secrets_in c.args.all.now)))) c.known_of.ensures
     (c.bound.ensures.all (rules_by table public) rules.sound (rules.known ∙ sym c.known_of.ensures))
