@@ -41,7 +41,7 @@ use Rattle.every_secret.specs.AnyPublic.{AreSeenAs, with_public}
 use Rattle.every_secret.specs.Laws.{RunLaw}
 use Rattle.every_secret.specs.Listed.{NoneLeft}
 use Rattle.every_secret.specs.Masked.{MaskedPlace}
-use Rattle.every_secret.specs.Replays.{unmasked, walked_on}
+use Rattle.every_secret.specs.Replays.{masked_start, walked_on}
 use Rattle.every_secret.specs.Turns.{masked_turn}
 use Rattle.every_secret.specs.Rules.{AreSoundRules, Rules}
 use Rattle.every_secret.proofs.Alike.{seeing, with_output}
@@ -382,7 +382,7 @@ run_law rules program seen public_input regions secret cut limits sound public i
       along = record {
         bits = [];
         left = limits.turns;
-        fed = λ more. ap (λ p. feed (walked_on rules (with_public task seen) limits limits.turns (unmasked p)) more)
+        fed = λ more. ap (λ p. feed (walked_on rules (with_public task seen) limits limits.turns (masked_start p)) more)
             (sym seen_starts);
         turns_are = omega arith;
         comes = ap (λ p. Fed' p []) (sym starts);

@@ -21,7 +21,7 @@ use Rattle.every_secret.specs.declared.verdicts.StoppedPath.{StoppedPath}
 use Rattle.every_secret.specs.Bounds.{Found, Halt, halt_of}
 use Rattle.every_secret.specs.Masked.{MaskedPlace}
 use Rattle.every_secret.specs.Paths.{Tree}
-use Rattle.every_secret.specs.Replays.{unmasked}
+use Rattle.every_secret.specs.Replays.{masked_start}
 use Rattle.every_secret.specs.Ways.{GoesOn}
 use Rattle.every_secret.specs.Private.Folding.{FoldsTo, stops_in}
 use Rattle.every_secret.specs.Private.Orders.{earlier}
@@ -115,7 +115,7 @@ module _ (terms : Terms) (start : State) (first second : Search) (tape : Tape) (
   module _ (basis : Basis) (state_is : start ≡ (replay_start basis.task).state) (same_turns : basis.limits.turns ≡ turns)
       (ahead : IsAhead tape.ahead basis.task.masks []) where
     abbrev place : MaskedPlace
-    place = unmasked (replay_start basis.task)
+    place = masked_start (replay_start basis.task)
 
     abbrev here : Stood
     here = record { entry = opened; place = place }

@@ -33,7 +33,7 @@ use Rattle.every_secret.specs.declared.whys.UnclearWhy.TheVariants.{BaseSecret}
 use Rattle.every_secret.specs.Bounds.{free_count}
 use Rattle.every_secret.specs.Masked.{Goes, Halts, MaskedPlace, Meets, Reached, label_moved, masked, unclear_by_left, unclear_by_look, unless_met}
 use Rattle.every_secret.specs.Paths.{tree_of}
-use Rattle.every_secret.specs.Replays.{MaskedReplay, ended_or, unless_exited, unless_over, unless_stopped, unmasked, walked_on}
+use Rattle.every_secret.specs.Replays.{MaskedReplay, ended_or, unless_exited, unless_over, unless_stopped, masked_start, walked_on}
 use Rattle.every_secret.specs.Rules.{Rules}
 use Rattle.every_secret.specs.Shown.{asked_for, byte_masks_after, shown_at, status_mask_after}
 use Rattle.every_secret.specs.Turns.{cutting_of, knowledge_at, secret_base_of, turn_from, turn_inside}
@@ -272,7 +272,7 @@ walked_weight rules task limits small (suc turns) place =
 pub replay_weight : (rules : Rules) (task : Task) (limits : Limits) → limits.budget < 4294967295 →
     tree_weight (tree_of (MaskedReplay rules task limits)) ≤ 2 ^ limits.budget
 replay_weight rules task limits small =
-    let all = walked_weight rules task limits small limits.turns (unmasked (replay_start task)) in
+    let all = walked_weight rules task limits small limits.turns (masked_start (replay_start task)) in
     let is = room_within limits.budget 0 (free_of [] 0) (omega arith) in
     let none : bit_count 0 ≡ 0 = count_zero 32 in
     let same : 2 ^ (free_of [] 0 + (limits.budget - 0)) ≡ 2 ^ limits.budget =

@@ -32,7 +32,7 @@ use Rattle.every_secret.specs.declared.stops.PathStop.TheVariants.{RangeOutside}
 use Rattle.every_secret.specs.declared.whys.UnclearWhy.TheVariants.{BaseSecret}
 use Rattle.every_secret.specs.Masked.{Goes, Halts, MaskedPlace, Meets, Reached, label_moved, masked, unclear_by_left, unclear_by_look, unless_met}
 use Rattle.every_secret.specs.Paths.{tree_of}
-use Rattle.every_secret.specs.Replays.{MaskedReplay, ended_or, unless_exited, unless_over, unless_stopped, unmasked, walked_on}
+use Rattle.every_secret.specs.Replays.{MaskedReplay, ended_or, unless_exited, unless_over, unless_stopped, masked_start, walked_on}
 use Rattle.every_secret.specs.Rules.{Rules}
 use Rattle.every_secret.specs.Shown.{asked_for, byte_masks_after, shown_at, status_mask_after}
 use Rattle.every_secret.specs.Turns.{cutting_of, knowledge_at, secret_base_of, turn_from, turn_inside}
@@ -191,5 +191,5 @@ walked_words rules task limits fit (suc turns) place keeps =
 pub replay_words : (rules : Rules) (task : Task) (limits : Limits) → FitWords task.masks →
     AllEnd EndsInWords (tree_of (MaskedReplay rules task limits))
 replay_words rules task limits fit =
-    walked_words rules task limits fit limits.turns (unmasked (replay_start task))
+    walked_words rules task limits fit limits.turns (masked_start (replay_start task))
     (record { bytes = tt; status = omega arith })

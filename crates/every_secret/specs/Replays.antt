@@ -53,8 +53,8 @@ walked_on rules task limits (suc turns) place =
     ended_or limits.budget reached (λ next. walked_on rules task limits turns next))
 
 -- at the start no bit may differ
-abbrev pub unmasked : ReplayPlace → MaskedPlace
-unmasked place = record {
+abbrev pub masked_start : ReplayPlace → MaskedPlace
+masked_start place = record {
   state = place.state;
   past = place.past;
   labels = default_map;
@@ -65,4 +65,4 @@ unmasked place = record {
 
 -- MaskedReplay
 abbrev pub MaskedReplay : Rules → Task → Limits → Asker PathEnd
-MaskedReplay rules task limits = walked_on rules task limits limits.turns (unmasked (replay_start task))
+MaskedReplay rules task limits = walked_on rules task limits limits.turns (masked_start (replay_start task))

@@ -17,8 +17,8 @@ pub record MaskedRun : Type 0 where
   pub labels : LabelMap
 
 -- at the start no bit may differ
-abbrev pub unmasked : Place → MaskedRun
-unmasked place = record { place = place; labels = default_map }
+abbrev pub cleared_start : Place → MaskedRun
+cleared_start place = record { place = place; labels = default_map }
 
 -- ---- one turn
 
@@ -65,7 +65,7 @@ AnswersUnless false table task answers run =
 
 -- Cleared: the run on a secret after the turns for which the rules gave these answers, the latest turn first
 unfoldable pub Cleared : Task → List ℕ → List (List ℕ) → MaskedRun
-Cleared task secret [] = unmasked (real_start task secret)
+Cleared task secret [] = cleared_start (real_start task secret)
 Cleared task secret (answers ∷ earlier) = next_masked task answers (Cleared task secret earlier)
 
 -- the rules answered so turn by turn

@@ -8,7 +8,7 @@ use Rattle.tracked_run.specs.Labels.{map_of}
 use Rattle.lockstep_replay.specs.Crossing.{crossing_of}
 use Rattle.lockstep_replay.specs.Tasks.{Task, Limits, real_start}
 use Rattle.taint_check.specs.declared.whys.TaintWhy.{TaintWhy}
-use Rattle.taint_check.specs.Cleared.{MaskedRun, AnswersUnless, is_hidden, kind_at, next_masked, unmasked}
+use Rattle.taint_check.specs.Cleared.{MaskedRun, AnswersUnless, is_hidden, kind_at, next_masked, cleared_start}
 use Rattle.taint_check.specs.Reasons.{unclear_turned}
 use Rattle.taint_check.specs.Private.Tapes.{Tape}
 
@@ -36,7 +36,7 @@ pub record Stands (task : Task) (limits : Limits) (run : MaskedRun) (cross : Lis
 pub record Begins (task : Task) (limits : Limits) (secret : List ℕ) (machine : State) (tape : Tape)
     (regions : List Region) (skip : List ℕ) : Type 0 where
   pub enclosures : task.enclosures ≡ record { regions = regions; skip = skip }
-  pub stands : Stands task limits (unmasked (real_start task secret)) [] machine tape
+  pub stands : Stands task limits (cleared_start (real_start task secret)) [] machine tape
 
 -- with the bits that cross in the next turn
 abbrev pub crossed_after : Task → MaskedRun → List Bool → List Bool
