@@ -15,7 +15,7 @@ use Rattle.every_secret.specs.declared.whys.UnclearWhy.TheVariants.{Budget}
 use Rattle.every_secret.specs.Masked.{Goes, Halts, MaskedPlace, Meets, Reached}
 use Rattle.every_secret.specs.Paths.{Fork, Leaf, Path, Tree, behind, forks, paths_of, tree_of}
 use Rattle.every_secret.specs.Private.Orders.{Come, descend, first_from, later}
-use Rattle.every_secret.specs.Replays.{ended_or, pattern_of, unless_exited, unless_over, unless_stopped, walked_on}
+use Rattle.every_secret.specs.Replays.{ended_or, pattern_of, unless_ended, unless_over, walked_on}
 use Rattle.every_secret.specs.Rules.{Rules}
 use Rattle.every_secret.specs.States.{AllEndWithin, EndsWithin, SameState, SameTreesLaw, below}
 use Rattle.every_secret.specs.Turns.{masked_turn}
@@ -150,35 +150,31 @@ module _ (rules : Rules) (task : Task) (limits : Limits) where
       status_mask = same.status_mask i;
     }
 
-    exit_same : (mode : Stepped) → tree_of (unless_exited mode first here) ≡ tree_of (unless_exited mode second there)
-    exit_same Ran = later
-    exit_same (Exited status) = ap (λ pattern. tree_of (Over (Exits pattern))) (exits_same status)
-    exit_same (Stopped fault) = refl
+    over_same : (one other : Asker PathEnd) → tree_of one ≡ tree_of other → (test : Bool) →
+        tree_of (unless_over test limits.budget first one) ≡ tree_of (unless_over test limits.budget second other)
+    over_same one other equal true = ap (λ n. tree_of (Over (Unclear (Budget limits.budget n)))) crossed
+    over_same one other equal false = equal
 
-    over_same : (test : Bool) → tree_of (unless_over test limits.budget first here)
-        ≡ tree_of (unless_over test limits.budget second there)
-    over_same true = ap (λ n. tree_of (Over (Unclear (Budget limits.budget n)))) crossed
-    over_same false =
-        exit_same first.state.control.mode
-        ∙ ap (λ (state : State). tree_of (unless_exited state.control.mode second there)) same.state
+    within_same : (one other : Asker PathEnd) → tree_of one ≡ tree_of other →
+        tree_of (unless_over (nat_lt limits.budget first.crossed) limits.budget first one)
+        ≡ tree_of (unless_over (nat_lt limits.budget second.crossed) limits.budget second other)
+    within_same one other equal =
+        over_same one other equal (nat_lt limits.budget first.crossed)
+        ∙ ap (λ n. tree_of (unless_over (nat_lt limits.budget n) limits.budget second other)) crossed
 
-    within_same : tree_of (unless_over (nat_lt limits.budget first.crossed) limits.budget first here)
-        ≡ tree_of (unless_over (nat_lt limits.budget second.crossed) limits.budget second there)
-    within_same =
-        over_same (nat_lt limits.budget first.crossed)
-        ∙ ap (λ n. tree_of (unless_over (nat_lt limits.budget n) limits.budget second there)) crossed
+    mode_same : (mode : Stepped) → tree_of (unless_ended mode limits.budget first here)
+        ≡ tree_of (unless_ended mode limits.budget second there)
+    mode_same Ran = within_same here there later
+    mode_same (Exited status) =
+        within_same (Over (Exits (pattern_of first status))) (Over (Exits (pattern_of second status)))
+        (ap (λ pattern. tree_of (Over (Exits pattern))) (exits_same status))
+    mode_same (Stopped fault) = refl
 
-    stop_same : (mode : Stepped) → tree_of (unless_stopped mode limits.budget first here)
-        ≡ tree_of (unless_stopped mode limits.budget second there)
-    stop_same Ran = within_same
-    stop_same (Exited status) = within_same
-    stop_same (Stopped fault) = refl
-
-    end_same : tree_of (unless_stopped first.state.control.mode limits.budget first here)
-        ≡ tree_of (unless_stopped second.state.control.mode limits.budget second there)
+    end_same : tree_of (unless_ended first.state.control.mode limits.budget first here)
+        ≡ tree_of (unless_ended second.state.control.mode limits.budget second there)
     end_same =
-        stop_same first.state.control.mode
-        ∙ ap (λ (state : State). tree_of (unless_stopped state.control.mode limits.budget second there)) same.state
+        mode_same first.state.control.mode
+        ∙ ap (λ (state : State). tree_of (unless_ended state.control.mode limits.budget second there)) same.state
 
   -- what is below two places
   abbrev SameBelow : ℕ → Type 0

@@ -8,7 +8,7 @@ use Rattle.std.proofs.lemmas.List.{length-append}
 use Rattle.flow_base.specs.Words.{Agree}
 use Rattle.flow_base.specs.declared.outputs.Output.{Output}
 use Rattle.flow_base.specs.declared.points.Point.{Point}
-use Rattle.crossing_bits.specs.Askers.{Asker, Fed', feed}
+use Rattle.crossing_bits.specs.Askers.{Asker, Fed', Over, feed}
 use Rattle.crossing_bits.proofs.Feeding.{feed_then}
 use Rattle.rv32im_machine.specs.declared.stepping.Fault.{Fault}
 use Rattle.rv32im_machine.specs.declared.stepping.Stepped.{Stepped}
@@ -42,7 +42,7 @@ use Rattle.every_secret.specs.AnyPublic.{AreSeenAs, with_public}
 use Rattle.every_secret.specs.Laws.{Chooses, EndsPath, GivesAs, IsLost}
 use Rattle.every_secret.specs.Listed.{AgreeEach}
 use Rattle.every_secret.specs.Masked.{Goes, MaskedPlace, Meets, Reached}
-use Rattle.every_secret.specs.Replays.{MaskedReplay, ended_or, pattern_of, unless_exited, unless_over, unless_stopped, walked_on}
+use Rattle.every_secret.specs.Replays.{MaskedReplay, ended_or, pattern_of, unless_ended, unless_over, walked_on}
 use Rattle.every_secret.specs.Rules.{AreSoundRules, Rules}
 use Rattle.every_secret.specs.Turns.{masked_turn}
 use Rattle.every_secret.proofs.Alike.{AgreeMode, seeing, with_output}
@@ -380,9 +380,8 @@ module _ (rules : Rules) (sound : AreSoundRules rules) (task : Task) (limits : L
         over : nat_lt limits.budget after.crossed ≡ false → (more : List Bool) →
             feed (ended_or limits.budget (Goes after) goes_later) more ≡ feed (goes_later goes_from) more
         over none more =
-            ap (λ m. feed (unless_stopped m limits.budget after (goes_later after)) more) shown
+            ap (λ m. feed (unless_ended m limits.budget after (goes_later after)) more) shown
             ∙ ap (λ t. feed (unless_over t limits.budget after (goes_later after)) more) none
-            ∙ ap (λ m. feed (unless_exited m after (goes_later after)) more) shown
             ∙ ap (λ p. feed (goes_later p) more) place_is
 
         goes_on : nat_lt limits.budget after.crossed ≡ false → Outside (suc turns)
@@ -433,15 +432,14 @@ module _ (rules : Rules) (sound : AreSoundRules rules) (task : Task) (limits : L
           nat_lt limits.budget after.crossed ≡ true → Settled
       over_budget mode shown on above =
           ends_here walked.chosen (Goes after) (Unclear (Budget limits.budget after.crossed)) (walked.goes [])
-          (ap (λ m. feed (unless_stopped m limits.budget after (goes_later after)) []) shown
-          ∙ passes mode on
-          ∙ ap (λ t. feed (unless_over t limits.budget after (goes_later after)) []) above) tt
+          (ap (λ m. feed (unless_ended m limits.budget after (goes_later after)) []) shown ∙ passes mode on) tt
         where
           passes : (mode : Stepped) → stopped_fault mode ≡ None →
-              feed (unless_stopped mode limits.budget after (goes_later after)) []
-              ≡ feed (unless_over (nat_lt limits.budget after.crossed) limits.budget after (goes_later after)) []
-          passes Ran none = refl
-          passes (Exited status) none = refl
+              feed (unless_ended mode limits.budget after (goes_later after)) []
+              ≡ Fed' (Unclear (Budget limits.budget after.crossed)) []
+          passes Ran none = ap (λ t. feed (unless_over t limits.budget after (goes_later after)) []) above
+          passes (Exited status) none =
+              ap (λ t. feed (unless_over t limits.budget after (Over (Exits (pattern_of after status)))) []) above
           passes (Stopped fault) none = absurd (cc)
 
       by_mode : (mode : Stepped) → after.state.control.mode ≡ mode →
@@ -450,7 +448,7 @@ module _ (rules : Rules) (sound : AreSoundRules rules) (task : Task) (limits : L
       by_mode (Stopped fault) shown agree t over =
           let stops = agree_stopped after.status_mask new.control.mode fault agree in
           inl (ends_here walked.chosen (Goes after) (Stops (Guest fault)) (walked.goes [])
-          (ap (λ m. feed (unless_stopped m limits.budget after (goes_later after)) []) shown)
+          (ap (λ m. feed (unless_ended m limits.budget after (goes_later after)) []) shown)
           (λ output gives.
           stopped_never task secret (suc turns) limits.turns before fault
           (ap (λ (p : Place). p.state.control.mode) next_is ∙ stops) output gives.exits))
@@ -462,9 +460,8 @@ module _ (rules : Rules) (sound : AreSoundRules rules) (task : Task) (limits : L
       by_mode (Exited copied) shown agree false over =
           let alike = agree_exited after.status_mask new.control.mode copied agree in
           inl (ends_here walked.chosen (Goes after) (Exits (pattern_of after copied)) (walked.goes [])
-          (ap (λ m. feed (unless_stopped m limits.budget after (goes_later after)) []) shown
-          ∙ ap (λ t. feed (unless_over t limits.budget after (goes_later after)) []) over
-          ∙ ap (λ m. feed (unless_exited m after (goes_later after)) []) shown)
+          (ap (λ m. feed (unless_ended m limits.budget after (goes_later after)) []) shown
+          ∙ ap (λ t. feed (unless_over t limits.budget after (Over (Exits (pattern_of after copied)))) []) over)
           (exits_as alike.0 copied alike.1 shown alike.2 (ltb-false limits.budget after.crossed over)))
 
     pub after_common : WalkedOrMet by place walk copy past → Mode (suc turns)

@@ -27,13 +27,13 @@ use Rattle.every_secret.specs.declared.path_ends.PathEnd.{PathEnd}
 use Rattle.every_secret.specs.declared.shown.Shown.{Shown}
 use Rattle.every_secret.specs.declared.shown.Shown.TheVariants.{Nothing, WrittenByte, ExitStatus}
 use Rattle.every_secret.specs.declared.whys.UnclearWhy.{UnclearWhy}
-use Rattle.every_secret.specs.declared.path_ends.PathEnd.TheVariants.{Stops, Unclear}
+use Rattle.every_secret.specs.declared.path_ends.PathEnd.TheVariants.{Exits, Stops, Unclear}
 use Rattle.every_secret.specs.declared.stops.PathStop.TheVariants.{RangeOutside}
 use Rattle.every_secret.specs.declared.whys.UnclearWhy.TheVariants.{BaseSecret}
 use Rattle.every_secret.specs.Bounds.{free_count}
 use Rattle.every_secret.specs.Masked.{Goes, Halts, MaskedPlace, Meets, Reached, label_moved, masked, unclear_by_left, unclear_by_look, unless_met}
 use Rattle.every_secret.specs.Paths.{tree_of}
-use Rattle.every_secret.specs.Replays.{MaskedReplay, ended_or, unless_exited, unless_over, unless_stopped, masked_start, walked_on}
+use Rattle.every_secret.specs.Replays.{MaskedReplay, ended_or, pattern_of, unless_ended, unless_over, masked_start, walked_on}
 use Rattle.every_secret.specs.Rules.{Rules}
 use Rattle.every_secret.specs.Shown.{asked_for, byte_masks_after, shown_at, status_mask_after}
 use Rattle.every_secret.specs.Turns.{cutting_of, knowledge_at, secret_base_of, turn_from, turn_inside}
@@ -207,40 +207,38 @@ module _ (rules : Rules) (budget : ℕ) (small : budget < 4294967295) (next : Re
 
 -- ---- the weight of a walk
 
-exited_weight : (budget : ℕ) (mode : Stepped) (place : MaskedPlace) (later : Asker PathEnd) →
-    place.crossed ≤ budget →
-    tree_weight (tree_of later) ≤ room budget place.crossed (free_of place.byte_masks place.status_mask) →
-    tree_weight (tree_of (unless_exited mode place later))
+exit_weight : (budget status : ℕ) (place : MaskedPlace) → place.crossed ≤ budget →
+    tree_weight (tree_of (Over (Exits (pattern_of place status))))
     ≤ room budget place.crossed (free_of place.byte_masks place.status_mask)
 unfolding tree_of
-exited_weight budget Ran place later within few = few
-exited_weight budget (Exited status) place later within few =
+exit_weight budget status place within =
     let free = free_of place.byte_masks place.status_mask in
     let is = room_within budget place.crossed free within in
     let grows : 2 ^ free ≤ 2 ^ (free + (budget - place.crossed)) =
     pow-le-pow_right {n = 2} (omega arith) (omega arith) in
     omega (arith, is, grows)
-exited_weight budget (Stopped fault) place later within few = omega arith
 
 over_weight : (budget : ℕ) (over : Bool) (place : MaskedPlace) (later : Asker PathEnd) →
     nat_lt budget place.crossed ≡ over →
-    tree_weight (tree_of later) ≤ room budget place.crossed (free_of place.byte_masks place.status_mask) →
+    (place.crossed ≤ budget →
+    tree_weight (tree_of later) ≤ room budget place.crossed (free_of place.byte_masks place.status_mask)) →
     tree_weight (tree_of (unless_over over budget place later))
     ≤ room budget place.crossed (free_of place.byte_masks place.status_mask)
 unfolding tree_of
 over_weight budget true place later is few = omega arith
-over_weight budget false place later is few =
-    exited_weight budget place.state.control.mode place later (ltb-false budget place.crossed is) few
+over_weight budget false place later is few = few (ltb-false budget place.crossed is)
 
-stopped_weight : (budget : ℕ) (mode : Stepped) (place : MaskedPlace) (later : Asker PathEnd) →
+ended_weight : (budget : ℕ) (mode : Stepped) (place : MaskedPlace) (later : Asker PathEnd) →
     tree_weight (tree_of later) ≤ room budget place.crossed (free_of place.byte_masks place.status_mask) →
-    tree_weight (tree_of (unless_stopped mode budget place later))
+    tree_weight (tree_of (unless_ended mode budget place later))
     ≤ room budget place.crossed (free_of place.byte_masks place.status_mask)
 unfolding tree_of
-stopped_weight budget Ran place later few = over_weight budget (nat_lt budget place.crossed) place later refl few
-stopped_weight budget (Exited status) place later few =
-    over_weight budget (nat_lt budget place.crossed) place later refl few
-stopped_weight budget (Stopped fault) place later few = omega arith
+ended_weight budget Ran place later few =
+    over_weight budget (nat_lt budget place.crossed) place later refl (λ within. few)
+ended_weight budget (Exited status) place later few =
+    over_weight budget (nat_lt budget place.crossed) place (Over (Exits (pattern_of place status))) refl
+    (λ within. exit_weight budget status place within)
+ended_weight budget (Stopped fault) place later few = omega arith
 
 over_zero : (e : PathEnd) → tree_weight (tree_of (Over e)) ≡ end_weight e
 unfolding tree_of
@@ -256,7 +254,7 @@ walked_weight rules task limits small (suc turns) place =
     let kind = kind_of task.enclosures.regions place.state.control in
     let next : Reached → Asker PathEnd =
     λ reached. ended_or limits.budget reached (λ after. walked_on rules task limits turns after) in
-    let goes = λ (after : MaskedPlace). stopped_weight limits.budget after.state.control.mode after
+    let goes = λ (after : MaskedPlace). ended_weight limits.budget after.state.control.mode after
     (walked_on rules task limits turns after) (walked_weight rules task limits small turns after) in
     let meets = λ (why : UnclearWhy). over_zero (Unclear why) in
     let halts = λ (outside : Outside). over_zero (Stops (RangeOutside outside)) in

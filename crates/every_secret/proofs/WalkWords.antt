@@ -27,12 +27,12 @@ use Rattle.every_secret.specs.declared.path_ends.PathEnd.{PathEnd}
 use Rattle.every_secret.specs.declared.shown.Shown.{Shown}
 use Rattle.every_secret.specs.declared.shown.Shown.TheVariants.{Nothing, WrittenByte, ExitStatus}
 use Rattle.every_secret.specs.declared.whys.UnclearWhy.{UnclearWhy}
-use Rattle.every_secret.specs.declared.path_ends.PathEnd.TheVariants.{Stops, Unclear}
+use Rattle.every_secret.specs.declared.path_ends.PathEnd.TheVariants.{Exits, Stops, Unclear}
 use Rattle.every_secret.specs.declared.stops.PathStop.TheVariants.{RangeOutside}
 use Rattle.every_secret.specs.declared.whys.UnclearWhy.TheVariants.{BaseSecret}
 use Rattle.every_secret.specs.Masked.{Goes, Halts, MaskedPlace, Meets, Reached, label_moved, masked, unclear_by_left, unclear_by_look, unless_met}
 use Rattle.every_secret.specs.Paths.{tree_of}
-use Rattle.every_secret.specs.Replays.{MaskedReplay, ended_or, unless_exited, unless_over, unless_stopped, masked_start, walked_on}
+use Rattle.every_secret.specs.Replays.{MaskedReplay, ended_or, pattern_of, unless_ended, unless_over, masked_start, walked_on}
 use Rattle.every_secret.specs.Rules.{Rules}
 use Rattle.every_secret.specs.Shown.{asked_for, byte_masks_after, shown_at, status_mask_after}
 use Rattle.every_secret.specs.Turns.{cutting_of, knowledge_at, secret_base_of, turn_from, turn_inside}
@@ -137,30 +137,26 @@ module _ (rules : Rules) (next : Reached → Asker PathEnd)
 
 -- ---- a walk
 
-exited_words : (mode : Stepped) (place : MaskedPlace) (later : Asker PathEnd) →
-    KeepsWords place.byte_masks place.status_mask → AllEnd EndsInWords (tree_of later) →
-    AllEnd EndsInWords (tree_of (unless_exited mode place later))
+exit_words : (status : ℕ) (place : MaskedPlace) → KeepsWords place.byte_masks place.status_mask →
+    AllEnd EndsInWords (tree_of (Over (Exits (pattern_of place status))))
 unfolding tree_of
-exited_words Ran place later keeps all = all
-exited_words (Exited status) place later keeps all = record { bytes = keeps.bytes; status = keeps.status }
-exited_words (Stopped fault) place later keeps all = tt
+exit_words status place keeps = record { bytes = keeps.bytes; status = keeps.status }
 
 over_words : (budget : ℕ) (over : Bool) (place : MaskedPlace) (later : Asker PathEnd) →
-    KeepsWords place.byte_masks place.status_mask → AllEnd EndsInWords (tree_of later) →
-    AllEnd EndsInWords (tree_of (unless_over over budget place later))
+    AllEnd EndsInWords (tree_of later) → AllEnd EndsInWords (tree_of (unless_over over budget place later))
 unfolding tree_of
-over_words budget true place later keeps all = tt
-over_words budget false place later keeps all = exited_words place.state.control.mode place later keeps all
+over_words budget true place later all = tt
+over_words budget false place later all = all
 
-stopped_words : (budget : ℕ) (mode : Stepped) (place : MaskedPlace) (later : Asker PathEnd) →
+ended_words : (budget : ℕ) (mode : Stepped) (place : MaskedPlace) (later : Asker PathEnd) →
     KeepsWords place.byte_masks place.status_mask → AllEnd EndsInWords (tree_of later) →
-    AllEnd EndsInWords (tree_of (unless_stopped mode budget place later))
+    AllEnd EndsInWords (tree_of (unless_ended mode budget place later))
 unfolding tree_of
-stopped_words budget Ran place later keeps all =
-    over_words budget (nat_lt budget place.crossed) place later keeps all
-stopped_words budget (Exited status) place later keeps all =
-    over_words budget (nat_lt budget place.crossed) place later keeps all
-stopped_words budget (Stopped fault) place later keeps all = tt
+ended_words budget Ran place later keeps all = over_words budget (nat_lt budget place.crossed) place later all
+ended_words budget (Exited status) place later keeps all =
+    over_words budget (nat_lt budget place.crossed) place (Over (Exits (pattern_of place status)))
+    (exit_words status place keeps)
+ended_words budget (Stopped fault) place later keeps all = tt
 
 over_end : (e : PathEnd) → EndsInWords e → AllEnd EndsInWords (tree_of (Over e))
 unfolding tree_of
@@ -176,7 +172,7 @@ walked_words rules task limits fit (suc turns) place keeps =
     let next : Reached → Asker PathEnd =
     λ reached. ended_or limits.budget reached (λ after. walked_on rules task limits turns after) in
     let goes = λ (after : MaskedPlace) (kept : KeepsWords after.byte_masks after.status_mask).
-    stopped_words limits.budget after.state.control.mode after (walked_on rules task limits turns after) kept
+    ended_words limits.budget after.state.control.mode after (walked_on rules task limits turns after) kept
     (walked_words rules task limits fit turns after kept) in
     let meets = λ (why : UnclearWhy). over_end (Unclear why) (tt {0}) in
     let halts = λ (outside : Outside). over_end (Stops (RangeOutside outside)) (tt {0}) in

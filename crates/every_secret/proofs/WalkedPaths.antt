@@ -20,7 +20,8 @@ use Rattle.every_secret.specs.declared.whys.UnclearWhy.TheVariants.{Budget}
 use Rattle.every_secret.specs.Private.Ends.{lengthens_none}
 use Rattle.every_secret.specs.Masked.{MaskedPlace, Reached, Goes, Meets, Halts}
 use Rattle.every_secret.specs.declared.path_ends.PathEnd.{PathEnd}
-use Rattle.every_secret.specs.Replays.{ended_or, unless_exited, unless_over, unless_stopped, walked_on}
+use Rattle.every_secret.specs.declared.path_ends.PathEnd.TheVariants.{Exits}
+use Rattle.every_secret.specs.Replays.{ended_or, pattern_of, unless_ended, unless_over, walked_on}
 use Rattle.every_secret.specs.Rules.{Rules}
 use Rattle.every_secret.specs.Private.Tapes.{HoldsPlace, Lengthens, Tape}
 use Rattle.every_secret.specs.Private.Turning.{HoldsTurn, MakesFed}
@@ -37,18 +38,17 @@ module _ (budget : ℕ) (state : State) (past : List Point) (after : Tape) (late
 
   -- no end, by how the machine stands and whether the budget is exceeded
   within-none : (over : Bool) → ending_within over budget after.crossed None ≡ None →
-      (mode : Stepped) → mode ≡ Ran → state.control.mode ≡ mode →
       unless_over over budget here later ≡ later
-  within-none true e mode ran is = absurd (cc)
-  within-none false e mode ran is = ap (λ m. unless_exited m here later) (is ∙ ran)
+  within-none true e = absurd (cc)
+  within-none false e = refl
 
   mode-none : (mode : Stepped) → state.control.mode ≡ mode → ending_mode mode budget after.crossed ≡ None →
-      unless_stopped mode budget here later ≡ later
-  mode-none Ran is e = within-none (nat_lt budget after.crossed) e Ran refl is
+      unless_ended mode budget here later ≡ later
+  mode-none Ran is e = within-none (nat_lt budget after.crossed) e
   mode-none (Exited status) is e = exited (nat_lt budget after.crossed) e
     where
       exited : (over : Bool) → ending_within over budget after.crossed (Some (ending.Exited status)) ≡ None →
-          unless_over over budget here later ≡ later
+          unless_over over budget here (Over (Exits (pattern_of here status))) ≡ later
       exited true e = absurd (cc)
       exited false e = absurd (cc)
   mode-none (Stopped fault) is e = absurd (cc)
@@ -56,7 +56,7 @@ module _ (budget : ℕ) (state : State) (past : List Point) (after : Tape) (late
   -- this end
   mode-some : (mode : Stepped) → state.control.mode ≡ mode → (ends : Ending) →
       ending_mode mode budget after.crossed ≡ Some ends →
-      unless_stopped mode budget here later ≡ Over (end_of ends state after)
+      unless_ended mode budget here later ≡ Over (end_of ends state after)
   mode-some Ran is ends e = ran (nat_lt budget after.crossed) e
     where
       ran : (over : Bool) → ending_within over budget after.crossed None ≡ Some ends →
@@ -68,13 +68,13 @@ module _ (budget : ℕ) (state : State) (past : List Point) (after : Tape) (late
   mode-some (Exited status) is ends e = exited (nat_lt budget after.crossed) e
     where
       exited : (over : Bool) → ending_within over budget after.crossed (Some (ending.Exited status)) ≡ Some ends →
-          unless_over over budget here later ≡ Over (end_of ends state after)
+          unless_over over budget here (Over (Exits (pattern_of here status))) ≡ Over (end_of ends state after)
       exited true e =
           let same : ending.Unclear (Budget budget after.crossed) ≡ ends = cc in
           ap (λ x. Over (end_of x state after)) same
       exited false e =
           let same : ending.Exited status ≡ ends = cc in
-          ap (λ m. unless_exited m here later) is ∙ ap (λ x. Over (end_of x state after)) same
+          ap (λ x. Over (end_of x state after)) same
   mode-some (Stopped fault) is ends e =
       let same : ending.Stopped (Guest fault) ≡ ends = cc in ap (λ x. Over (end_of x state after)) same
 

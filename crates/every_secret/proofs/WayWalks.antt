@@ -2,14 +2,15 @@
 use Rattle.std.proofs.Common.{◌≡◌, ℕ, zero, suc, ◌+◌, ◌++◌, [], List, Bool, refl, sym, ap, ◌∙◌}
 use Rattle.std.proofs.Common.{subst, append_assoc, append-nil, arith}
 use Rattle.std.proofs.lemmas.Bool.{le-ltb}
-use Rattle.crossing_bits.specs.Askers.{Asker, Fed', feed}
+use Rattle.crossing_bits.specs.Askers.{Asker, Fed', Over, feed}
 use Rattle.crossing_bits.proofs.Feeding.{feed_after, feed_then}
 use Rattle.rv32im_machine.specs.declared.stepping.Stepped.{Stepped}
 use Rattle.rv32im_machine.specs.declared.stepping.Stepped.TheVariants.{Ran, Exited, Stopped}
 use Rattle.lockstep_replay.specs.Tasks.{Limits, Task}
 use Rattle.every_secret.specs.declared.path_ends.PathEnd.{PathEnd}
+use Rattle.every_secret.specs.declared.path_ends.PathEnd.TheVariants.{Exits}
 use Rattle.every_secret.specs.Masked.{Goes, Halts, MaskedPlace, Meets, Reached}
-use Rattle.every_secret.specs.Replays.{ended_or, unless_exited, unless_over, unless_stopped, walked_on}
+use Rattle.every_secret.specs.Replays.{ended_or, pattern_of, unless_ended, unless_over, walked_on}
 use Rattle.every_secret.specs.Rules.{Rules}
 use Rattle.every_secret.specs.Turns.{masked_turn}
 use Rattle.every_secret.specs.Ways.{EndsAfter, EndsIn, EndsOn, GoesOn, Leads}
@@ -20,23 +21,22 @@ use Rattle.every_secret.specs.Ways.{EndsAfter, EndsIn, EndsOn, GoesOn, Leads}
 goes_on_is : (limits : Limits) (next : MaskedPlace) (later : MaskedPlace → Asker PathEnd) → GoesOn limits next →
     ended_or limits.budget (Goes next) later ≡ later next
 goes_on_is limits next later goes =
-    ap (λ mode. unless_stopped mode limits.budget next (later next)) goes.runs
-    ∙ (ap (λ test. unless_over test limits.budget next (later next)) (le-ltb limits.budget next.crossed goes.within)
-    ∙ ap (λ mode. unless_exited mode next (later next)) goes.runs)
+    ap (λ mode. unless_ended mode limits.budget next (later next)) goes.runs
+    ∙ ap (λ test. unless_over test limits.budget next (later next)) (le-ltb limits.budget next.crossed goes.within)
 
 ends_is : (limits : Limits) (last : MaskedPlace) (reached : Reached) (later : MaskedPlace → Asker PathEnd)
     (ends : PathEnd) (crossed : ℕ) → EndsAfter limits last reached ends crossed →
     feed (ended_or limits.budget reached later) [] ≡ Fed' ends []
-ends_is limits last (Goes next) later ends crossed h = by next.state.control.mode refl h.1
+ends_is limits last (Goes next) later ends crossed h = by next.state.control.mode h.1
   where
-    by : (mode : Stepped) → next.state.control.mode ≡ mode → EndsIn mode limits next ends →
-        feed (unless_stopped mode limits.budget next (later next)) [] ≡ Fed' ends []
-    by Ran is in_mode = absurd in_mode
-    by (Exited status) is in_mode =
-        ap (λ test. feed (unless_over test limits.budget next (later next)) [])
+    by : (mode : Stepped) → EndsIn mode limits next ends →
+        feed (unless_ended mode limits.budget next (later next)) [] ≡ Fed' ends []
+    by Ran in_mode = absurd in_mode
+    by (Exited status) in_mode =
+        ap (λ test. feed (unless_over test limits.budget next (Over (Exits (pattern_of next status)))) [])
         (le-ltb limits.budget next.crossed in_mode.0)
-        ∙ (ap (λ mode. feed (unless_exited mode next (later next)) []) is ∙ ap (λ e. Fed' e []) (sym in_mode.1))
-    by (Stopped fault) is in_mode = ap (λ e. Fed' e []) (sym in_mode)
+        ∙ ap (λ e. Fed' e []) (sym in_mode.1)
+    by (Stopped fault) in_mode = ap (λ e. Fed' e []) (sym in_mode)
 ends_is limits last (Meets why) later ends crossed h = absurd h
 ends_is limits last (Halts outside) later ends crossed h = ap (λ e. Fed' e []) (sym h.1)
 

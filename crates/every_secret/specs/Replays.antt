@@ -23,25 +23,21 @@ pattern_of place status = record {
   status_mask = place.status_mask;
 }
 
--- a walk within its budget that has not stopped ends where it has exited, and else goes on
-abbrev pub unless_exited : Stepped → MaskedPlace → Asker PathEnd → Asker PathEnd
-unless_exited Ran place later = later
-unless_exited (Exited status) place later = Over (Exits (pattern_of place status))
-unless_exited (Stopped fault) place later = Over (Stops (Guest fault))
-
+-- what comes of a walk, unless more bits have crossed than the budget
 abbrev pub unless_over : Bool → ℕ → MaskedPlace → Asker PathEnd → Asker PathEnd
 unless_over true budget place later = Over (Unclear (Budget budget place.crossed))
-unless_over false budget place later = unless_exited place.state.control.mode place later
+unless_over false budget place later = later
 
--- a stop comes before the budget
-abbrev pub unless_stopped : Stepped → ℕ → MaskedPlace → Asker PathEnd → Asker PathEnd
-unless_stopped (Stopped fault) budget place later = Over (Stops (Guest fault))
-unless_stopped Ran budget place later = unless_over (nat_lt budget place.crossed) budget place later
-unless_stopped (Exited status) budget place later = unless_over (nat_lt budget place.crossed) budget place later
+-- a walk goes on unless the guest has exited or stopped; a stop comes before the budget
+abbrev pub unless_ended : Stepped → ℕ → MaskedPlace → Asker PathEnd → Asker PathEnd
+unless_ended Ran budget place later = unless_over (nat_lt budget place.crossed) budget place later
+unless_ended (Exited status) budget place later =
+    unless_over (nat_lt budget place.crossed) budget place (Over (Exits (pattern_of place status)))
+unless_ended (Stopped fault) budget place later = Over (Stops (Guest fault))
 
 -- a walk after a turn
 abbrev pub ended_or : ℕ → Reached → (MaskedPlace → Asker PathEnd) → Asker PathEnd
-ended_or budget (Goes place) later = unless_stopped place.state.control.mode budget place (later place)
+ended_or budget (Goes place) later = unless_ended place.state.control.mode budget place (later place)
 ended_or budget (Meets why) later = Over (Unclear why)
 ended_or budget (Halts outside) later = Over (Stops (RangeOutside outside))
 
