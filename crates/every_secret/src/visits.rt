@@ -1,6 +1,7 @@
 //! One visit of a walk: its mask, and what becomes of the bits that cross.
 
-ghost use Rattle.std.specs.Prelude.{◌≡◌, ◌≤◌, ◌<◌, ◌+◌, ℕ, [], ◌++◌, length, replicate, drop, take, false, Some, IfOk, OnOk, IsTrue};
+ghost use Rattle.std.specs.Prelude.{◌≡◌, ◌≤◌, ◌<◌, ◌+◌, ℕ, [], ◌++◌, length, replicate, drop, take, false, Some};
+ghost use Rattle.std.specs.Prelude.{IfOk, OnOk, OnErr, IsTrue};
 ghost use Rattle.flow_base.specs.Points.{is_slot, width_of};
 ghost use Rattle.flow_base.specs.Words.{bit_count as count_of, patched};
 ghost use Rattle.rv32im_machine.specs.Playing.{AreSources, FitsSlot, joins_bytes};
@@ -61,12 +62,14 @@ fn cleared(value: u32, mask: u32) -> u32
 }
 
 /// A string gets zeros after its end until so many of its bits are left.
-/// `NoMemory` where there is not enough, and where the string would have 2^32 bits.
+/// `NoMemory` only where the string is too short: it has to grow then, by bits that there is no memory for or that it
+/// can't have, since it has at most 2^32 - 1.
 fn lengthen(bits: &mut Bits, count: u32) -> Result<(), NoMemory>
     ensures grown { OnOk result ((more : ℕ) × ((bits.new.bits ≡ bits.old.bits ++ replicate more false)
         × (0 < more → bits.new.taken + count ≡ length bits.new.bits))) }
     ensures enough { OnOk result (bits.new.taken + count ≤ length bits.new.bits) }
     ensures taken { OnOk result (bits.new.taken ≡ bits.old.taken) }
+    ensures memory { OnErr result (length bits.old.bits < bits.old.taken + count) }
 {
     let left = bits.left();
     for _ in left..count {
@@ -80,11 +83,13 @@ fn lengthen(bits: &mut Bits, count: u32) -> Result<(), NoMemory>
 
 /// The value with the next bits of a string in place of those under the mask; where too few are left the string gets
 /// zeros after its end.
-/// `NoMemory` where there is not enough.
+/// `NoMemory` only where the string is too short: it has to grow then, by bits that there is no memory for or that it
+/// can't have, since it has at most 2^32 - 1.
 fn choose(bits: &mut Bits, value: u32, mask: u32) -> Result<u32, NoMemory>
     ensures takes { OnOk result (Takes (count_of mask) bits.old bits.new) }
     ensures value { IfOk result (λ word.
         word ≡ patched value mask (take (count_of mask) (drop bits.old.taken bits.new.bits))) }
+    ensures memory { OnErr result (length bits.old.bits < bits.old.taken + count_of mask) }
 {
     lengthen(bits, bit_count(mask))?;
     match bits.patch(value, mask) {
@@ -95,7 +100,8 @@ fn choose(bits: &mut Bits, value: u32, mask: u32) -> Result<u32, NoMemory>
 
 /// What goes on from a visit at which these bits cross and may differ: where nothing is shown the next bits of the
 /// string stand in their place, and else zeros.
-/// `NoMemory` where there is not enough.
+/// `NoMemory` only where the string is too short: it has to grow then, by bits that there is no memory for or that it
+/// can't have, since it has at most 2^32 - 1.
 #[inline(always)]
 pub(crate) fn put_in(
     bits: &mut Bits,
@@ -106,6 +112,7 @@ pub(crate) fn put_in(
     ensures takes { OnOk result (Takes (asked_for shown differing) bits.old bits.new) }
     ensures value { IfOk result (λ word.
         word ≡ patched value differing (take (asked_for shown differing) (drop bits.old.taken bits.new.bits))) }
+    ensures memory { OnErr result (length bits.old.bits < bits.old.taken + asked_for shown differing) }
 {
     let _ = bits.left();
     if differing == 0 {
