@@ -1,7 +1,7 @@
 -- A clean run: nothing is found in any of its turns, and it has exited.
 use Rattle.std.proofs.Common.{◌≡◌, ℕ, suc, ◌≤◌, List, [], ◌∷◌, length, Bool, true, false, Option, Some, None}
 use Rattle.std.proofs.Common.{refl, sym, ap, ◌∙◌, arith}
-use Rattle.std.specs.Prelude.{◌==◌, if◌then◌else◌}
+use Rattle.std.specs.Prelude.{◌==◌, if◌then◌else◌, option_map}
 use Rattle.std.proofs.lemmas.Bool.{eqb-true}
 use Rattle.flow_base.specs.declared.outputs.Output.{Output}
 use Rattle.rv32im_machine.specs.declared.stepping.Stepped.{Stepped}
@@ -13,7 +13,7 @@ use Rattle.taint_check.specs.declared.whys.TaintWhy.{TaintWhy}
 use Rattle.taint_check.specs.declared.whys.TaintWhy.TheVariants.{SecretLength}
 use Rattle.taint_check.specs.Cleared.{Cleared, AreRunAnswers}
 use Rattle.taint_check.specs.Reasons.{unclear_turned}
-use Rattle.taint_check.specs.Tainted.{Finding, IsClean, IsUnclear, IsVerdict, found, found_in, found_mode, found_turn}
+use Rattle.taint_check.specs.Tainted.{Finding, IsClean, IsUnclear, IsVerdict, exit_of, found, found_in, found_turn}
 use Rattle.taint_check.specs.Tainted.{found_within, first_found}
 
 -- no turn has a reason
@@ -47,8 +47,13 @@ pub record IsExit (why : Option TaintWhy) (state : State) (cross bits : List Boo
   pub bits_are : bits ≡ cross
   pub exits : HasExited state output
 
+-- clean where the run has exited
+abbrev clean_by : State → List Bool → Option ℕ → Option Finding
+clean_by state cross exit =
+    option_map (λ status. IsClean cross (record { bytes = state.control.output; status = status })) exit
+
 mode_exit : (state : State) (cross bits : List Bool) (output : Output) (mode : Stepped) → state.control.mode ≡ mode →
-    found_mode mode state.control.output cross ≡ Some (IsClean bits output) → IsExit None state cross bits output
+    clean_by state cross (exit_of mode) ≡ Some (IsClean bits output) → IsExit None state cross bits output
 mode_exit state cross bits output Ran is e = absurd (cc)
 mode_exit state cross bits output (Stopped fault) is e = absurd (cc)
 mode_exit state cross bits output (Exited status) is e =

@@ -1,9 +1,7 @@
 -- The verdict of a run, turn by turn.
 use Rattle.std.proofs.Common.{◌≡◌, ◌<◌, ℕ, suc, List, [], ◌∷◌, ◌++◌, length, Bool, Option, Some, None}
 use Rattle.std.proofs.Common.{refl, ap, ap₂, sym, ◌∙◌, subst, arith, eq-eqb, ne_eqb}
-use Rattle.std.specs.Prelude.{if◌then◌else◌}
-use Rattle.rv32im_machine.specs.declared.stepping.Stepped.{Stepped}
-use Rattle.rv32im_machine.specs.declared.stepping.Stepped.TheVariants.{Ran, Exited, Stopped}
+use Rattle.std.specs.Prelude.{if◌then◌else◌, option_map}
 use Rattle.rv32im_machine.specs.State.{State}
 use Rattle.enclosure_regions.specs.declared.region_parts.Region.{Region}
 use Rattle.region_machine.specs.Runs.{Real, real_turn}
@@ -13,7 +11,7 @@ use Rattle.taint_check.specs.declared.whys.TaintWhy.{TaintWhy}
 use Rattle.taint_check.specs.declared.whys.TaintWhy.TheVariants.{TurnLimit, SecretLength}
 use Rattle.taint_check.specs.Cleared.{Cleared, AreRunAnswers}
 use Rattle.taint_check.specs.Reasons.{unclear_turned}
-use Rattle.taint_check.specs.Tainted.{Finding, IsClean, IsUnclear, found, found_in, found_turn, found_mode, found_within}
+use Rattle.taint_check.specs.Tainted.{Finding, IsClean, IsUnclear, found, found_in, found_turn, found_within}
 use Rattle.taint_check.specs.Tainted.{first_found, exit_of, IsVerdict}
 use Rattle.taint_check.specs.Private.Tapes.{Tape}
 use Rattle.taint_check.specs.Private.Turns.{Begins, Stands, MakesMasked, crossed_after}
@@ -98,19 +96,9 @@ module _ (table : ℕ) (task : Task) (limits : Limits) (secret : List ℕ) (turn
   verdict-unclear reason e below same =
       verdict-found (IsUnclear reason) (ap (λ w. found_turn w reached crossed) e) below same
 
-  exit-found : (mode : Stepped) (status : ℕ) → exit_of mode ≡ Some status →
-      found_mode mode reached.control.output crossed
-      ≡ Some (IsClean crossed (record { bytes = reached.control.output; status = status }))
-  exit-found Ran status e = absurd (cc)
-  exit-found (Exited other) status e =
-      let same : other ≡ status = cc in
-      ap (λ n. Some (IsClean crossed (record { bytes = reached.control.output; status = n }))) same
-  exit-found (Stopped fault) status e = absurd (cc)
-
-  on-found : (mode : Stepped) → exit_of mode ≡ None → found_mode mode reached.control.output crossed ≡ None
-  on-found Ran e = refl
-  on-found (Exited status) e = absurd (cc)
-  on-found (Stopped fault) e = refl
+  -- clean where the run has exited
+  abbrev clean-by : Option ℕ → Option Finding
+  clean-by exit = option_map (λ status. IsClean crossed (record { bytes = reached.control.output; status = status })) exit
 
   -- the exit
   pub verdict-clean : (status : ℕ) → why ≡ None → exit_of reached.control.mode ≡ Some status → turns < limits.turns →
@@ -123,7 +111,7 @@ module _ (table : ℕ) (task : Task) (limits : Limits) (secret : List ℕ) (turn
       subst (λ b. IsVerdict table task limits secret
       (IsClean b (record { bytes = reached.control.output; status = status }))) (sym bits)
       (verdict-found (IsClean crossed (record { bytes = reached.control.output; status = status }))
-      (ap (λ w. found_turn w reached crossed) fine ∙ exit-found reached.control.mode status exits) below same)
+      (ap (λ w. found_turn w reached crossed) fine ∙ ap (λ exit. clean-by exit) exits) below same)
 
   -- a turn in which nothing is found
   pub going-on : why ≡ None → exit_of reached.control.mode ≡ None →
@@ -135,7 +123,7 @@ module _ (table : ℕ) (task : Task) (limits : Limits) (secret : List ℕ) (turn
     count = omega (arith, going.count);
     stands = subst (λ bits. Stands task limits (Cleared task secret all) bits reached after)
         (crossed_next task secret going.answers) (makes.next fine);
-    none = found-all ∙ (ap (λ w. found_turn w reached crossed) fine ∙ on-found reached.control.mode runs);
+    none = found-all ∙ (ap (λ w. found_turn w reached crossed) fine ∙ ap (λ exit. clean-by exit) runs);
   }
 
 -- as many turns as may be made

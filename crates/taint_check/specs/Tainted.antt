@@ -1,6 +1,7 @@
 -- The verdict of a check with one machine: clean, or the first reason why it is unclear, by turn and within a turn in a
 -- fixed order.
-use Rattle.std.specs.Prelude.{◌≡◌, ℕ, suc, ◌==◌, ◌≤◌, List, [], ◌∷◌, length, Bool, Option, Some, None, if◌then◌else◌}
+use Rattle.std.specs.Prelude.{◌≡◌, ℕ, suc, ◌==◌, ◌≤◌, List, [], ◌∷◌, length, Bool, Option, Some, None}
+use Rattle.std.specs.Prelude.{if◌then◌else◌, option_map}
 use Rattle.flow_base.specs.declared.outputs.Output.{Output}
 use Rattle.rv32im_machine.specs.declared.stepping.Stepped.{Stepped}
 use Rattle.rv32im_machine.specs.declared.stepping.Stepped.TheVariants.{Ran, Exited, Stopped}
@@ -18,22 +19,19 @@ pub data Finding : Type 0 where
   IsClean : List Bool → Output → Finding
   IsUnclear : TaintWhy → Finding
 
--- after a turn without a reason: clean where the run has exited
-abbrev pub found_mode : Stepped → List ℕ → List Bool → Option Finding
-found_mode Ran written cross = None
-found_mode (Exited status) written cross = Some (IsClean cross (record { bytes = written; status = status }))
-found_mode (Stopped fault) written cross = None
-
 -- the status with which a run has exited, if it has
 abbrev pub exit_of : Stepped → Option ℕ
 exit_of Ran = None
 exit_of (Exited status) = Some status
 exit_of (Stopped fault) = None
 
--- after a turn that has come to this state, with the crossing bits so far
+-- after a turn that has come to this state, with the crossing bits so far: without a reason clean where the run has
+-- exited
 abbrev pub found_turn : Option TaintWhy → State → List Bool → Option Finding
 found_turn (Some why) state cross = Some (IsUnclear why)
-found_turn None state cross = found_mode state.control.mode state.control.output cross
+found_turn None state cross =
+    option_map (λ status. IsClean cross (record { bytes = state.control.output; status = status }))
+    (exit_of state.control.mode)
 
 abbrev pub first_found : Option Finding → Option Finding → Option Finding
 first_found (Some finding) later = Some finding
