@@ -1,11 +1,9 @@
 -- What a table of masks has ahead, before and after a visit.
 use Rattle.std.proofs.Common.{◌≡◌, ℕ, zero, suc, ◌+◌, ◌-◌, ◌<◌, ◌≤◌, inl, inr, true, false, Bool, List, [], ◌∷◌, length}
-use Rattle.std.proofs.Common.{get_or, take, refl, sym, ap, subst, ◌∙◌, arith, Option, Some, None, if◌then◌else◌}
+use Rattle.std.proofs.Common.{get_or, refl, sym, ap, subst, ◌∙◌, arith, Option, Some, None, if◌then◌else◌}
 use Rattle.std.specs.Prelude.{replicate, slice_set}
 use Rattle.std.specs.List.{list_all}
-use Rattle.std.proofs.lemmas.Bool.{and_parts, and_from, cases_Bool, cond-false, cond-true}
-use Rattle.std.proofs.lemmas.List.{get_or-set_other}
-use Rattle.std.proofs.lemmas.Grind.{get_or-set_at}
+use Rattle.std.proofs.lemmas.Bool.{and_parts, cases_Bool, cond-false, cond-true}
 use Rattle.flow_base.specs.declared.points.Point.{Point}
 use Rattle.cut_file.specs.declared.points.CutPoint.{CutPoint}
 use Rattle.flow_base.specs.Points.{is_slot, width_of}
@@ -13,7 +11,6 @@ use Rattle.flow_base.proofs.PointOrders.{one_same, one_if_same}
 use Rattle.flow_base.specs.PointOrders.{is_same}
 use Rattle.cut_file.specs.Cuts.{are_points, is_cut_point}
 use Rattle.cut_file.specs.Masks.{MaskAt, listed_masks, mask_of, repeated}
-use Rattle.crossing_bits.proofs.Feeding.{le_or_lt}
 use Rattle.region_machine.specs.AddressMarks.{has_mark}
 use Rattle.replay_machine.specs.declared.cursors.Cursor.{Cursor}
 use Rattle.replay_machine.specs.Runs.{Masks, times_passed, mask_at}
