@@ -19,7 +19,8 @@ use Rattle.rv32im_decode.specs.declared.instructions.OpKind.TheVariants.{Add}
 use Rattle.rv32im_decode.specs.declared.instructions.StoreKind.{StoreKind}
 use Rattle.rv32im_decode.specs.declared.instructions.StoreKind.TheVariants.{Sb, Sh, Sw}
 use Rattle.rv32im_decode.specs.Operations.{word_of, operation_of, upper_of, load_size, store_size}
-use Rattle.rv32im_decode.specs.Encoding.{decoded, encoded, InRange}
+use Rattle.rv32im_decode.specs.Encoding.{encoded, InRange}
+use Rattle.rv32im_decode.specs.Decoding.{decoded}
 use Rattle.rv32im_decode.proofs.Decodes.{decoded_is}
 use Rattle.guest_calls.specs.declared.kinds.CallKind.{CallKind}
 use Rattle.guest_calls.specs.declared.kinds.CallKind.TheVariants.{Read, Write as WriteCall, Exit as ExitCall}

@@ -6,7 +6,7 @@ use Rattle.rv32im_decode.specs.declared.instructions.Instr.{Instr}
 use Rattle.rv32im_decode.specs.declared.instructions.Instr.TheVariants.{Lui, Auipc, Jal, Jalr, Branch, Load}
 use Rattle.rv32im_decode.specs.declared.instructions.Instr.TheVariants.{Store as StoreInstr, OpImm, Op, Fence, Ecall}
 use Rattle.rv32im_decode.specs.declared.instructions.Instr.TheVariants.{Ebreak}
-use Rattle.rv32im_decode.specs.Encoding.{decoded}
+use Rattle.rv32im_decode.specs.Decoding.{decoded}
 use Rattle.flow_base.specs.Guests.{is_inside}
 use Rattle.rv32im_machine.specs.declared.language.Seen.TheVariants.{Word}
 use Rattle.rv32im_machine.specs.declared.stepping.Stepped.{Stepped}

@@ -1,5 +1,5 @@
-ghost use Rattle.std.specs.Prelude.{◌≡◌, ℕ, IfOk, false, slice_index_or, true, vec_len};
-ghost use Rattle.region_machine.specs.AddressMarks.{has_mark};
+ghost use Rattle.std.specs.Prelude.{◌≡◌, ◌≢◌, ℕ, IfOk, false, slice_index_or, true, vec_len};
+ghost use Rattle.region_machine.specs.AddressMarks.{has_mark, mark_place};
 
 use flow_base::NoMemory;
 use std::alloc::Global;
@@ -44,10 +44,12 @@ impl AddressMarks {
         Ok(AddressMarks { set })
     }
 
-    /// Marks an address. What was marked stays so.
+    /// Marks an address. What was marked stays so, and what does not share its mark stays as it was.
     pub fn mark(&mut self, address: u32)
         ensures marked { has_mark self.new address ≡ true }
         ensures kept { (other : ℕ) → has_mark self.old other ≡ true → has_mark self.new other ≡ true }
+        ensures others { (other : ℕ) → mark_place other ≢ mark_place address →
+            has_mark self.new other ≡ has_mark self.old other }
     {
         self.set[(address / 4) as usize % MARKS] = true;
     }

@@ -2,7 +2,7 @@
 use Rattle.std.specs.Prelude.{ℕ, ◌+◌, ◌-◌, ◌*◌, ◌%◌, List, [], ◌∷◌, ◌++◌, drop, codes}
 use Rattle.std.specs.Option.{option_map_or}
 use Rattle.flow_base.specs.HexWords.{hex_digits, hex_word}
-use Rattle.rv32im_decode.specs.Encoding.{decoded}
+use Rattle.rv32im_decode.specs.Decoding.{decoded}
 use Rattle.elf32_loader.specs.declared.segments.Segment.{Segment}
 use Rattle.rv32im_asm.specs.InstructionTexts.{instruction_text}
 

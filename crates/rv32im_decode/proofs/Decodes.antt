@@ -8,14 +8,16 @@ use Rattle.rv32im_decode.specs.declared.instructions.Instr.TheVariants.{Ebreak}
 use Rattle.rv32im_decode.specs.declared.instructions.ImmKind.{ImmKind}
 use Rattle.rv32im_decode.specs.declared.instructions.ImmKind.TheVariants.{Addi, Slti, Sltiu, Xori, Ori, Andi, Slli}
 use Rattle.rv32im_decode.specs.declared.instructions.ImmKind.TheVariants.{Srli, Srai}
-use Rattle.rv32im_decode.specs.Formats.{opcode_of, rd_of, funct3_of, rs1_of, rs2_of, funct7_of, i_bits, s_bits}
-use Rattle.rv32im_decode.specs.Formats.{b_bits, u_bits, j_bits, sign_extended, bits_of, r_word, i_word, s_word}
+use Rattle.rv32im_decode.specs.Formats.{sign_extended, bits_of, r_word, i_word, s_word}
 use Rattle.rv32im_decode.specs.Formats.{b_word, j_word}
-use Rattle.rv32im_decode.specs.Listings.{branch_funct3, branch_kind, load_funct3, load_kind, store_funct3, store_kind}
-use Rattle.rv32im_decode.specs.Listings.{imm_funct3, imm_kind, op_funct3, op_kind}
-use Rattle.rv32im_decode.specs.Encoding.{InRange, IsWithin, IsImmediate, encoded, decoded, immediate_of, decoded_jalr}
-use Rattle.rv32im_decode.specs.Encoding.{decoded_branch, decoded_load, decoded_store, decoded_op_imm, decoded_op}
-use Rattle.rv32im_decode.specs.Encoding.{decoded_fence, decoded_system}
+use Rattle.rv32im_decode.specs.Listings.{branch_funct3, load_funct3, store_funct3}
+use Rattle.rv32im_decode.specs.Listings.{imm_funct3, op_funct3}
+use Rattle.rv32im_decode.specs.Encoding.{InRange, IsWithin, IsImmediate, encoded}
+use Rattle.rv32im_decode.specs.Fields.{opcode_of, rd_of, funct3_of, rs1_of, rs2_of, funct7_of, i_bits, s_bits}
+use Rattle.rv32im_decode.specs.Fields.{b_bits, u_bits, j_bits}
+use Rattle.rv32im_decode.specs.Kinds.{branch_kind, load_kind, store_kind, imm_kind, op_kind}
+use Rattle.rv32im_decode.specs.Decoding.{decoded, immediate_of, decoded_jalr, decoded_branch, decoded_load}
+use Rattle.rv32im_decode.specs.Decoding.{decoded_store, decoded_op_imm, decoded_op, decoded_fence, decoded_system}
 use Rattle.rv32im_decode.proofs.Signs.{bits_12, bits_13, bits_21, within_12, within_13, within_21, even_13, even_21}
 use Rattle.rv32im_decode.proofs.Splits.{join_split, i_join, s_join, b_join, j_join}
 use Rattle.rv32im_decode.proofs.Tables.{chosen, branch_has, load_has, store_has, op_has, imm_has, HasFunct7}
@@ -163,7 +165,7 @@ op_imm_is word below o =
     (rs1_of word) (immediate_of kind word)) ≡ word) = operand_is kind word below o f.0 f.1 in
     ((omega arith, omega arith, is.0), is.1))
 
-pub decoded_is : (word : ℕ) → word < 2 ^ 32 → IfSome (decoded word) (λ instr. InRange instr × (encoded instr ≡ word))
+pub decoded_is : (word : ℕ) → word < 2 ^ 32 → IfSome (decoded word) (IsOf word)
 unfolding decoded
 decoded_is word below =
     let Is : Option Instr → Type 0 = λ found. IfSome found (IsOf word) in

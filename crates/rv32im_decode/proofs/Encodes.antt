@@ -13,12 +13,15 @@ use Rattle.rv32im_decode.specs.declared.instructions.ImmKind.{ImmKind}
 use Rattle.rv32im_decode.specs.declared.instructions.ImmKind.TheVariants.{Addi, Slti, Sltiu, Xori, Ori, Andi, Slli}
 use Rattle.rv32im_decode.specs.declared.instructions.ImmKind.TheVariants.{Srli, Srai}
 use Rattle.rv32im_decode.specs.Operations.{word_of}
-use Rattle.rv32im_decode.specs.Formats.{opcode_of, rd_of, funct3_of, rs1_of, rs2_of, funct7_of, i_bits, s_bits}
-use Rattle.rv32im_decode.specs.Formats.{b_bits, u_bits, j_bits, sign_extended, bits_of, i_word}
-use Rattle.rv32im_decode.specs.Listings.{branch_funct3, branch_kind, load_funct3, load_kind, store_funct3, store_kind}
-use Rattle.rv32im_decode.specs.Listings.{imm_funct3, imm_kind, op_funct3, op_funct7, op_kind}
-use Rattle.rv32im_decode.specs.Encoding.{InRange, IsWithin, IsEven, IsImmediate, encoded, decoded, immediate_of}
+use Rattle.rv32im_decode.specs.Formats.{sign_extended, bits_of, i_word}
+use Rattle.rv32im_decode.specs.Listings.{branch_funct3, load_funct3, store_funct3}
+use Rattle.rv32im_decode.specs.Listings.{imm_funct3, op_funct3, op_funct7}
+use Rattle.rv32im_decode.specs.Encoding.{InRange, IsWithin, IsEven, IsImmediate, encoded}
 use Rattle.rv32im_decode.specs.Encoding.{immediate_bits}
+use Rattle.rv32im_decode.specs.Fields.{opcode_of, rd_of, funct3_of, rs1_of, rs2_of, funct7_of, i_bits, s_bits}
+use Rattle.rv32im_decode.specs.Fields.{b_bits, u_bits, j_bits}
+use Rattle.rv32im_decode.specs.Kinds.{branch_kind, load_kind, store_kind, imm_kind, op_kind}
+use Rattle.rv32im_decode.specs.Decoding.{decoded, immediate_of}
 use Rattle.rv32im_decode.proofs.Signs.{extends_12, extends_13, extends_21}
 use Rattle.rv32im_decode.proofs.Splits.{split_join, i_fields, i_split, s_fields, b_fields, j_fields}
 use Rattle.rv32im_decode.proofs.Tables.{branch_found, branch_below, load_found, load_below, store_found, store_below}

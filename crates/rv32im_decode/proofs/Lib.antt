@@ -3,3 +3,4 @@ pub mod Splits
 pub mod Tables
 pub mod Encodes
 pub mod Decodes
+pub mod DecodedWords

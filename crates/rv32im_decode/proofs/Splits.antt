@@ -1,7 +1,8 @@
 -- A word below 2^32 and its fields, there and back.
 use Rattle.std.proofs.Common.{◌≡◌, ℕ, ◌<◌, ◌^◌, ◌%◌, ◌/◌, ◌+◌, ◌*◌, arith}
-use Rattle.rv32im_decode.specs.Formats.{opcode_of, rd_of, funct3_of, rs1_of, rs2_of, funct7_of, i_bits, s_bits}
-use Rattle.rv32im_decode.specs.Formats.{b_bits, u_bits, j_bits, r_word, i_word, s_word, b_word, u_word, j_word}
+use Rattle.rv32im_decode.specs.Formats.{r_word, i_word, s_word, b_word, u_word, j_word}
+use Rattle.rv32im_decode.specs.Fields.{opcode_of, rd_of, funct3_of, rs1_of, rs2_of, funct7_of, i_bits, s_bits}
+use Rattle.rv32im_decode.specs.Fields.{b_bits, u_bits, j_bits}
 
 -- the fields of a joined word
 pub record AreFields (word opcode rd funct3 rs1 rs2 funct7 : ℕ) : Type 0 where

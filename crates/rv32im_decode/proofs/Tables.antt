@@ -15,9 +15,11 @@ use Rattle.rv32im_decode.specs.declared.instructions.OpKind.TheVariants.{And, Mu
 use Rattle.rv32im_decode.specs.declared.instructions.OpKind.TheVariants.{Rem, Remu}
 use Rattle.rv32im_decode.specs.declared.instructions.StoreKind.{StoreKind}
 use Rattle.rv32im_decode.specs.declared.instructions.StoreKind.TheVariants.{Sb, Sh, Sw}
-use Rattle.rv32im_decode.specs.Listings.{branch_funct3, branch_kind, load_funct3, load_kind, store_funct3, store_kind}
-use Rattle.rv32im_decode.specs.Listings.{is_shift, imm_funct3, shift_funct7, imm_kind, left_shift, right_shift}
-use Rattle.rv32im_decode.specs.Listings.{op_funct3, op_funct7, op_kind, plain_op, other_op, multiply_op}
+use Rattle.rv32im_decode.specs.Listings.{branch_funct3, load_funct3, store_funct3}
+use Rattle.rv32im_decode.specs.Listings.{is_shift, imm_funct3, shift_funct7}
+use Rattle.rv32im_decode.specs.Listings.{op_funct3, op_funct7}
+use Rattle.rv32im_decode.specs.Kinds.{branch_kind, load_kind, store_kind, imm_kind, left_shift, right_shift}
+use Rattle.rv32im_decode.specs.Kinds.{op_kind, plain_op, other_op, multiply_op}
 
 -- a fact of a choice, from that fact of each side
 pub chosen : {T : Type 0} (P : T → Type 0) (test : Bool) (x y : T) → (test ≡ true → P x) → (test ≡ false → P y) →

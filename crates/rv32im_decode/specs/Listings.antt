@@ -72,14 +72,6 @@ branch_funct3 Bge = 0b101
 branch_funct3 Bltu = 0b110
 branch_funct3 Bgeu = 0b111
 
--- the branch with this funct3
-abbrev pub branch_kind : ℕ → Option BranchKind
-branch_kind funct3 =
-    if funct3 == 0b000 then Some Beq else if funct3 == 0b001 then Some Bne else
-    if funct3 == 0b100 then Some Blt else if funct3 == 0b101 then Some Bge else
-    if funct3 == 0b110 then Some Bltu else if funct3 == 0b111 then Some Bgeu else
-    None
-
 -- funct3 of a load
 abbrev pub load_funct3 : LoadKind → ℕ
 load_funct3 Lb = 0b000
@@ -88,24 +80,11 @@ load_funct3 Lw = 0b010
 load_funct3 Lbu = 0b100
 load_funct3 Lhu = 0b101
 
--- the load with this funct3
-abbrev pub load_kind : ℕ → Option LoadKind
-load_kind funct3 =
-    if funct3 == 0b000 then Some Lb else if funct3 == 0b001 then Some Lh else
-    if funct3 == 0b010 then Some Lw else if funct3 == 0b100 then Some Lbu else
-    if funct3 == 0b101 then Some Lhu else None
-
 -- funct3 of a store
 abbrev pub store_funct3 : StoreKind → ℕ
 store_funct3 Sb = 0b000
 store_funct3 Sh = 0b001
 store_funct3 Sw = 0b010
-
--- the store with this funct3
-abbrev pub store_kind : ℕ → Option StoreKind
-store_kind funct3 =
-    if funct3 == 0b000 then Some Sb else if funct3 == 0b001 then Some Sh else
-    if funct3 == 0b010 then Some Sw else None
 
 -- whether the immediate is a number of places to shift by
 abbrev pub is_shift : ImmKind → Bool
@@ -130,23 +109,6 @@ imm_funct3 Srai = 0b101
 abbrev pub shift_funct7 : ImmKind → ℕ
 shift_funct7 Srai = 0b0100000
 shift_funct7 kind = 0b0000000
-
--- the shift to the left with this funct7
-abbrev pub left_shift : ℕ → Option ImmKind
-left_shift funct7 = if funct7 == 0b0000000 then Some Slli else None
-
--- the shift to the right with this funct7
-abbrev pub right_shift : ℕ → Option ImmKind
-right_shift funct7 = if funct7 == 0b0000000 then Some Srli else if funct7 == 0b0100000 then Some Srai else None
-
--- the register-immediate operation with this funct3, and if it is a shift with this funct7
-abbrev pub imm_kind : ℕ → ℕ → Option ImmKind
-imm_kind funct7 funct3 =
-    if funct3 == 0b000 then Some Addi else if funct3 == 0b010 then Some Slti else
-    if funct3 == 0b011 then Some Sltiu else if funct3 == 0b100 then Some Xori else
-    if funct3 == 0b110 then Some Ori else if funct3 == 0b111 then Some Andi else
-    if funct3 == 0b001 then left_shift funct7 else if funct3 == 0b101 then right_shift funct7 else
-    None
 
 -- funct3 of a register-register operation
 abbrev pub op_funct3 : OpKind → ℕ
@@ -189,31 +151,3 @@ op_funct7 Div = 0b0000001
 op_funct7 Divu = 0b0000001
 op_funct7 Rem = 0b0000001
 op_funct7 Remu = 0b0000001
-
--- the operation with funct7 0000000 and this funct3
-abbrev pub plain_op : ℕ → Option OpKind
-plain_op funct3 =
-    if funct3 == 0b000 then Some Add else if funct3 == 0b001 then Some Sll else
-    if funct3 == 0b010 then Some Slt else if funct3 == 0b011 then Some Sltu else
-    if funct3 == 0b100 then Some Xor else if funct3 == 0b101 then Some Srl else
-    if funct3 == 0b110 then Some Or else if funct3 == 0b111 then Some And else
-    None
-
--- the operation with funct7 0100000 and this funct3
-abbrev pub other_op : ℕ → Option OpKind
-other_op funct3 = if funct3 == 0b000 then Some Sub else if funct3 == 0b101 then Some Sra else None
-
--- the operation of the "M" extension, funct7 0000001, with this funct3
-abbrev pub multiply_op : ℕ → Option OpKind
-multiply_op funct3 =
-    if funct3 == 0b000 then Some Mul else if funct3 == 0b001 then Some Mulh else
-    if funct3 == 0b010 then Some Mulhsu else if funct3 == 0b011 then Some Mulhu else
-    if funct3 == 0b100 then Some Div else if funct3 == 0b101 then Some Divu else
-    if funct3 == 0b110 then Some Rem else if funct3 == 0b111 then Some Remu else
-    None
-
--- the register-register operation with this funct7 and funct3
-abbrev pub op_kind : ℕ → ℕ → Option OpKind
-op_kind funct7 funct3 =
-    if funct7 == 0b0000000 then plain_op funct3 else if funct7 == 0b0100000 then other_op funct3 else
-    if funct7 == 0b0000001 then multiply_op funct3 else None

@@ -1,12 +1,13 @@
 //! From words to instructions.
 
-ghost use Rattle.std.specs.Prelude.{◌≡◌, IfSome};
-ghost use Rattle.rv32im_decode.specs.declared.instructions.Instr.{Instr as Instruction};
-ghost use Rattle.rv32im_decode.specs.Encoding.{InRange, encoded, decoded, decoded_jalr, decoded_branch, decoded_load};
-ghost use Rattle.rv32im_decode.specs.Encoding.{decoded_store};
-ghost use Rattle.rv32im_decode.specs.Encoding.{decoded_op_imm, decoded_op, decoded_fence, decoded_system};
-ghost use Rattle.rv32im_decode.specs.Encoding.{immediate_of};
-ghost use Rattle.rv32im_decode.specs.Listings.{branch_kind, load_kind, store_kind, imm_kind, op_kind, is_shift};
+ghost use Rattle.std.specs.Prelude.{◌≡◌};
+ghost use Rattle.rv32im_decode.specs.Encoding.{IsDecoded};
+ghost use Rattle.rv32im_decode.specs.Listings.{is_shift};
+ghost use Rattle.rv32im_decode.specs.Kinds.{branch_kind, load_kind, store_kind, imm_kind};
+ghost use Rattle.rv32im_decode.specs.Kinds.{op_kind};
+ghost use Rattle.rv32im_decode.specs.Decoding.{decoded_jalr, decoded_branch, decoded_load};
+ghost use Rattle.rv32im_decode.specs.Decoding.{decoded_store, decoded_op_imm, decoded_op};
+ghost use Rattle.rv32im_decode.specs.Decoding.{decoded, decoded_fence, decoded_system, immediate_of};
 
 use crate::fields::{
     branch_offset, fence_immediate, funct3, funct7, immediate, jump_offset, opcode, rd, rs1, rs2,
@@ -21,14 +22,12 @@ use crate::opcodes::{AUIPC, BRANCH, JAL, JALR, LOAD, LUI, MISC_MEM, OP, OP_IMM, 
 #[inline(always)]
 pub fn decode(word: u32) -> Option<Instr>
     ensures exact { result ≡ decoded word }
-    ensures fits { IfSome result InRange }
-    ensures joins { IfSome result (λ instr. encoded instr ≡ word) }
-    ensures only { (instr : Instruction) → InRange instr → encoded instr ≡ word → result ≡ Some instr }
+    ensures told { IsDecoded word result }
 {
     decode_by_opcode(word)
 }
 
-#[tactic(auto, unfolding(crate::specs::Encoding::decoded))]
+#[tactic(auto, unfolding(crate::specs::Decoding::decoded))]
 #[inline(always)]
 fn decode_by_opcode(word: u32) -> Option<Instr>
     ensures { result ≡ decoded word }

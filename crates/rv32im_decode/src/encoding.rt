@@ -2,9 +2,11 @@
 
 ghost use Rattle.std.specs.Prelude.{◌≡◌, ◌<◌, ◌^◌, ◌≤ℤ◌, ◌<ℤ◌, ◌↔◌, IsTrue, pos, neg_ℤ};
 ghost use Rattle.rv32im_decode.specs.Listings.{op_funct3, op_funct7, op_opcode};
-ghost use Rattle.rv32im_decode.specs.Formats.{bits_of, r_word, i_word, s_word, b_word, u_word, j_word};
-ghost use Rattle.rv32im_decode.specs.Encoding.{InRange, IsWithin, IsEven, IsImmediate, encoded, decoded};
+ghost use Rattle.rv32im_decode.specs.Formats.{bits_of, r_word, i_word, s_word, b_word, u_word};
+ghost use Rattle.rv32im_decode.specs.Formats.{j_word};
+ghost use Rattle.rv32im_decode.specs.Encoding.{InRange, IsWithin, IsEven, IsImmediate, encoded};
 ghost use Rattle.rv32im_decode.specs.Encoding.{immediate_bits};
+ghost use Rattle.rv32im_decode.specs.Decoding.{decoded};
 
 use crate::instructions::{ImmKind, Instr, OpKind};
 use crate::opcodes::{AUIPC, BRANCH, JAL, JALR, LOAD, LUI, MISC_MEM, OP, OP_IMM, STORE};

@@ -2,8 +2,10 @@
 //! Variants").
 
 ghost use Rattle.std.specs.Prelude.{◌≡◌, ◌<◌, ◌^◌};
-ghost use Rattle.rv32im_decode.specs.Formats.{opcode_of, rd_of, funct3_of, rs1_of, rs2_of, funct7_of};
-ghost use Rattle.rv32im_decode.specs.Formats.{i_bits, s_bits, b_bits, u_bits, j_bits, sign_extended};
+ghost use Rattle.rv32im_decode.specs.Formats.{sign_extended};
+ghost use Rattle.rv32im_decode.specs.Fields.{opcode_of, rd_of, funct3_of, rs1_of, rs2_of};
+ghost use Rattle.rv32im_decode.specs.Fields.{funct7_of, i_bits, s_bits, b_bits, u_bits};
+ghost use Rattle.rv32im_decode.specs.Fields.{j_bits};
 
 /// Bits 6 to 0 of a word ("Base Instruction Formats").
 pub fn opcode(word: u32) -> u32

@@ -2,10 +2,12 @@
 //! Listings").
 
 ghost use Rattle.std.specs.Prelude.{◌≡◌, ◌<◌};
-ghost use Rattle.rv32im_decode.specs.Listings.{branch_kind, load_kind, store_kind, imm_kind, op_kind, left_shift};
-ghost use Rattle.rv32im_decode.specs.Listings.{right_shift};
-ghost use Rattle.rv32im_decode.specs.Listings.{plain_op, other_op, multiply_op, is_shift, branch_funct3, load_funct3};
-ghost use Rattle.rv32im_decode.specs.Listings.{store_funct3, imm_funct3, shift_funct7, op_funct3, op_funct7};
+ghost use Rattle.rv32im_decode.specs.Listings.{is_shift, branch_funct3, load_funct3};
+ghost use Rattle.rv32im_decode.specs.Listings.{store_funct3, imm_funct3, shift_funct7, op_funct3};
+ghost use Rattle.rv32im_decode.specs.Listings.{op_funct7};
+ghost use Rattle.rv32im_decode.specs.Kinds.{branch_kind, load_kind, store_kind, imm_kind};
+ghost use Rattle.rv32im_decode.specs.Kinds.{op_kind, left_shift, right_shift, plain_op};
+ghost use Rattle.rv32im_decode.specs.Kinds.{other_op, multiply_op};
 
 use crate::instructions::{BranchKind, ImmKind, LoadKind, OpKind, StoreKind};
 

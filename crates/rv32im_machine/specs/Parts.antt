@@ -5,7 +5,7 @@ use Rattle.std.specs.Prelude.{Result, Ok, Err}
 use Rattle.rv32im_decode.specs.declared.instructions.Instr.{Instr}
 use Rattle.rv32im_decode.specs.declared.instructions.Instr.TheVariants.{Lui, Auipc, Jal, Jalr, Branch, Load, Store as StoreInstr, OpImm, Op}
 use Rattle.rv32im_decode.specs.declared.instructions.LoadKind.{LoadKind}
-use Rattle.rv32im_decode.specs.Encoding.{decoded}
+use Rattle.rv32im_decode.specs.Decoding.{decoded}
 use Rattle.rv32im_decode.specs.Operations.{word_of, operation_of, upper_of, op_result, is_taken, address_of, target_of, load_size, store_size, extended}
 use Rattle.flow_base.specs.Guests.{is_inside}
 use Rattle.rv32im_machine.specs.declared.stepping.Fault.{Fault}

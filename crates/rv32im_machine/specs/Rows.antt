@@ -9,7 +9,7 @@ use Rattle.rv32im_decode.specs.declared.instructions.StoreKind.{StoreKind}
 use Rattle.rv32im_decode.specs.declared.instructions.StoreKind.TheVariants.{Sb, Sh, Sw}
 use Rattle.rv32im_decode.specs.declared.instructions.OpKind.TheVariants.{Add}
 use Rattle.rv32im_decode.specs.Operations.{word_of, operation_of, upper_of, load_size, store_size}
-use Rattle.rv32im_decode.specs.Encoding.{decoded}
+use Rattle.rv32im_decode.specs.Decoding.{decoded}
 use Rattle.flow_base.specs.Guests.{is_inside}
 use Rattle.rv32im_machine.specs.declared.stepping.Fault.{Fault}
 use Rattle.rv32im_machine.specs.declared.stepping.Fault.TheVariants.{Illegal, FetchOutside, FetchUnaligned, LoadOutside, StoreOutside, Breakpoint}

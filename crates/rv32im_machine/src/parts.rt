@@ -1,5 +1,6 @@
 ghost use Rattle.std.specs.Prelude.{◌≡◌, IfOk, IsTrue};
-ghost use Rattle.rv32im_decode.specs.Encoding.{InRange, decoded};
+ghost use Rattle.rv32im_decode.specs.Encoding.{InRange};
+ghost use Rattle.rv32im_decode.specs.Decoding.{decoded};
 ghost use Rattle.rv32im_machine.specs.Parts.{is_branch, is_load, is_store, has_address};
 ghost use Rattle.rv32im_machine.specs.Parts.{read_as, fetch_part, first_part, second_part, address_part, load_part};
 ghost use Rattle.rv32im_machine.specs.Parts.{store_part, result_part, decision_part};

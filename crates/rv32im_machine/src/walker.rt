@@ -1,7 +1,8 @@
 #![tactic(auto, unfolding(crate::specs::Language::walked), using(crate::proofs::Memories::known_inside))]
 
 ghost use Rattle.std.specs.Prelude.{◌≡◌};
-ghost use Rattle.rv32im_decode.specs.Encoding.{InRange, decoded};
+ghost use Rattle.rv32im_decode.specs.Encoding.{InRange};
+ghost use Rattle.rv32im_decode.specs.Decoding.{decoded};
 ghost use Rattle.rv32im_machine.specs.State.{onward};
 ghost use Rattle.rv32im_machine.specs.Language.{turn_walk, Ends};
 ghost use Rattle.rv32im_machine.specs.Rows.{row_walk, stops, running, walk_of};

@@ -13,7 +13,7 @@ use Rattle.rv32im_decode.specs.declared.instructions.LoadKind.{LoadKind}
 use Rattle.rv32im_decode.specs.declared.instructions.LoadKind.TheVariants.{Lb, Lh, Lw, Lbu, Lhu}
 use Rattle.rv32im_decode.specs.declared.instructions.StoreKind.{StoreKind}
 use Rattle.rv32im_decode.specs.declared.instructions.StoreKind.TheVariants.{Sb, Sh, Sw}
-use Rattle.rv32im_decode.specs.Encoding.{decoded}
+use Rattle.rv32im_decode.specs.Decoding.{decoded}
 use Rattle.rv32im_decode.specs.Operations.{word_of, word_of_truth, is_taken, address_of, target_of, load_size, store_size}
 use Rattle.rv32im_machine.specs.declared.stepping.CallPlan.{CallPlan}
 use Rattle.rv32im_machine.specs.declared.stepping.CallPlan.TheVariants.{Answer, PublicRead, SecretRead, Write as WritePlan, Brk as BrkPlan, Exit as ExitPlan, Stop}

@@ -13,7 +13,7 @@ use Rattle.rv32im_decode.specs.declared.instructions.LoadKind.{LoadKind}
 use Rattle.rv32im_decode.specs.declared.instructions.LoadKind.TheVariants.{Lb, Lh, Lw, Lbu, Lhu}
 use Rattle.rv32im_decode.specs.declared.instructions.StoreKind.{StoreKind}
 use Rattle.rv32im_decode.specs.declared.instructions.StoreKind.TheVariants.{Sb, Sh, Sw}
-use Rattle.rv32im_decode.specs.Encoding.{decoded}
+use Rattle.rv32im_decode.specs.Decoding.{decoded}
 use Rattle.rv32im_decode.specs.Operations.{word_of, word_of_truth, is_taken, address_of, target_of, load_size, store_size}
 use Rattle.flow_base.specs.declared.points.Slot.{Slot}
 use Rattle.flow_base.specs.declared.points.Slot.TheVariants.{First, Address, Result as ResultSlot, Number, SecretIn, ByteOut}

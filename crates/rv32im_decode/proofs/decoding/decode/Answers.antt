@@ -1,19 +1,6 @@
-use Rattle.std.proofs.Common.{◌∙◌, arith, sym}
-use Rattle.std.proofs.lemmas.Option.{IfSome_then}
-use Rattle.rv32im_decode.specs.Encoding.{decoded}
-use Rattle.rv32im_decode.proofs.Encodes.{encoded_decodes}
-use Rattle.rv32im_decode.proofs.Decodes.{decoded_is}
+use Rattle.std.proofs.Common.{arith}
+use Rattle.rv32im_decode.proofs.DecodedWords.{decoded_told}
 use Rattle.rv32im_decode.proofs.decoding.decode.Goals as goal
 
-pub returns-clause-fits : goal.returns-clause-fits
-returns-clause-fits c =
-    rw c.decode_by_opcode.ensures
-    (IfSome_then (decoded c.args.word) (decoded_is c.args.word (omega arith)) (λ instr h. h.0))
-
-pub returns-clause-joins : goal.returns-clause-joins
-returns-clause-joins c =
-    rw c.decode_by_opcode.ensures
-    (IfSome_then (decoded c.args.word) (decoded_is c.args.word (omega arith)) (λ instr h. h.1))
-
-pub returns-clause-only : goal.returns-clause-only
-returns-clause-only c = λ instr fits e. c.decode_by_opcode.ensures ∙ encoded_decodes instr c.args.word fits (sym e)
+pub returns-clause-told : goal.returns-clause-told
+returns-clause-told c = rw c.decode_by_opcode.ensures (decoded_told c.args.word (omega arith))
