@@ -15,6 +15,9 @@ are left out, and so is what std and the kit define. Each record, data type and 
 variant is a part; a type of src/ counts where specs.declared names it, or a field of a type that counts. A definition
 does not count itself. Lines are those of signature and body, comments inside with them and the one above left out.
 
+A definition under a comment `-- read in its place: PATH` is known by that statement, which a clause of a public function
+proves of it: its signature is one line, and in place of its body the statement is read.
+
 With `--unreached` it lists instead the files of definitions on which no public contract of any crate stands, but for
 those in a folder specs/Private/, and the files in such a folder on which one does; the status is 1 where there is any.
 A public contract is that of a function, a method or a trait that a `pub use` of a crate's lib.rt names. Crates that are
@@ -26,6 +29,7 @@ import sys
 
 WORD = r"[A-Za-z_][\w']*(?:-[A-Za-z]\w*)*"
 NAME = re.compile(rf"{WORD}(?:(?:\.|::){WORD})*|[^\s\w(){{}}\[\],;.\"'◌]+")
+INSTEAD = re.compile(r"-- read in its place: (\S+)$")
 HEAD = re.compile(r"(?:(?:abbrev|unfoldable|pub|record|data) )+(?!(?:use|mod) )([^\s:]+)|([\w'◌-]+) :")
 USE = re.compile(r"^\s*(?:pub |ghost )*use ([\w.:]+?)(?:(?:\.|::)\{([^}]*)\}| as (\w+))?;?$", re.M)
 TYPE = re.compile(r"(?:pub(?:\(crate\))? )?(?:struct|enum|trait|type) (\w+)")
@@ -72,6 +76,12 @@ class Source:
             outer.append(line[2:] if head and not line.startswith("module ") else line)
         return outer, heads
 
+    def in_place_of(self, name):
+        """The path of the statement that is read in place of a definition, if the comment above it names one."""
+        above = self.heads[name][0] - 1
+        found = INSTEAD.match(self.lines[above]) if above >= 0 else None
+        return found and found[1]
+
     def definitions(self):
         """Each definition with its first line and the line behind its last."""
         outer, heads = self.outer_lines()
@@ -113,9 +123,11 @@ class Source:
 
 
 class Crates:
-    """The definitions and types of all crates. One of them is a pair of its file and its name."""
+    """The definitions and types of all crates. One of them is a pair of its file and its name. Unless `in_place` is
+    false, a statement that is read in place of a definition stands for it."""
 
-    def __init__(self):
+    def __init__(self, in_place=True):
+        self.in_place = in_place
         paths = [*pathlib.Path("crates").glob("*/specs/**/*.antt"), *pathlib.Path("crates").glob("*/src/**/*.rt")]
         self.sources, self.stands = {path: Source(path) for path in paths}, {}
         if not paths:
@@ -160,6 +172,12 @@ class Crates:
             elif name in source.heads or name in source.variants:
                 yield source, source.variants.get(name, name)
 
+    def stood_on(self, source, name):
+        """What a definition stands on: what its text names, or the statement that is read in its place."""
+        if self.in_place and (path := source.in_place_of(name)):
+            return {self.brought(None, ["Rattle", *path.split(".")]) or sys.exit(f"{source.path}: {path} is nowhere")}
+        return set(self.named(source, source.text_of(name)))
+
     def closure(self, found):
         """All that these stand on, and these."""
         whole, waiting = set(), set(found)
@@ -167,7 +185,7 @@ class Crates:
             source, name = one = waiting.pop()
             whole.add(one)
             if one not in self.stands:
-                self.stands[one] = set(self.named(source, source.text_of(name)))
+                self.stands[one] = self.stood_on(source, name)
             waiting |= self.stands[one] - whole
         return whole
 
@@ -227,7 +245,7 @@ class Crates:
 def lines_of(one):
     """How many lines a definition has."""
     first, last = one[0].heads[one[1]]
-    return last - first
+    return 1 if one[0].in_place_of(one[1]) else last - first
 
 
 def told(some, kind):
@@ -256,7 +274,7 @@ def main():
     words = parser.parse_args()
     if bool(words.names) == words.unreached or words.list and words.unreached:
         parser.error("it takes names, or --unreached alone")
-    crates = Crates()
+    crates = Crates(in_place=not words.unreached)
     if words.unreached:
         found = list(crates.misplaced())
         print("".join(f"{wrong}: {path}\n" for path, wrong in found), end="")

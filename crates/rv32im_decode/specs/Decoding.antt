@@ -60,7 +60,7 @@ abbrev pub decoded_system : ℕ → Option Instr
 decoded_system word = if word == ecall_word then Some Ecall else if word == ebreak_word then Some Ebreak else None
 
 -- chapter "RV32/64G Instruction Set Listings": the instruction of a word, or none; the opcode tells the row
--- read in its place: IsDecoded
+-- read in its place: rv32im_decode.specs.Encoding.IsDecoded
 unfoldable pub decoded : ℕ → Option Instr
 decoded word =
     let opcode = opcode_of word in
