@@ -1,6 +1,6 @@
 -- A covered run is accepted.
-use Rattle.std.proofs.Common.{◌≡◌, ℕ, suc, ◌-◌, ◌<◌, ◌≤◌, ◌⊎◌, ⊎_elim, Bool, true, false, List, []}
-use Rattle.std.proofs.Common.{◌∷◌, length, Some, None, refl, sym, ap, subst, ◌∙◌, arith}
+use Rattle.std.proofs.Common.{◌≡◌, ℕ, suc, ◌<◌, ◌≤◌, ◌⊎◌, ⊎_elim, Bool, true, false, List, []}
+use Rattle.std.proofs.Common.{◌∷◌, length, None, refl, sym, ap, subst, ◌∙◌, arith}
 use Rattle.std.specs.Prelude.{replicate}
 use Rattle.std.proofs.lemmas.Bool.{cases_lt}
 use Rattle.std.proofs.lemmas.List.{get_or-replicate, get_or_past, length-replicate}
@@ -8,26 +8,21 @@ use Rattle.flow_base.specs.declared.outputs.Output.{Output}
 use Rattle.crossing_bits.specs.Askers.{feed, Fed'}
 use Rattle.enclosure_regions.specs.declared.region_parts.Region.{Region}
 use Rattle.enclosure_regions.specs.Regions.{are_regions}
-use Rattle.rv32im_machine.specs.declared.language.Place.{Place as ThePlace}
-use Rattle.rv32im_machine.specs.declared.language.Place.TheVariants.{Register, Byte, First, Second}
 use Rattle.rv32im_machine.specs.declared.stepping.Stepped.{Stepped}
 use Rattle.rv32im_machine.specs.declared.stepping.Stepped.TheVariants.{Ran, Exited, Stopped}
 use Rattle.rv32im_machine.specs.Start.{zeros}
 use Rattle.rv32im_machine.specs.State.{Setting, Control, Store, State}
-use Rattle.rv32im_machine.specs.Language.{none_held, at_place}
-use Rattle.region_machine.specs.Enclosures.{is_enclosed, region_numbered}
+use Rattle.region_machine.specs.Enclosures.{is_enclosed}
 use Rattle.region_machine.specs.Runs.{Real, common_turns}
 use Rattle.replay_machine.specs.Runs.{ReplayPlace, Masks, Replay}
 use Rattle.lockstep_replay.specs.Acceptance.{HasExited, EndAlike, SameMark}
 use Rattle.lockstep_replay.specs.Crossing.{cross_after}
 use Rattle.run_labels.specs.Runs.{run_after, stopped_fault}
-use Rattle.run_labels.specs.TurnLabels.{label_at, at_start}
-use Rattle.shadow_masks.specs.Writes.{default_map}
 use Rattle.acceptance_law.specs.Sides.{NamedSide}
-use Rattle.acceptance_law.specs.Proper.{AreBytes, IsProperGuest, IsProperPlace, place_limit}
+use Rattle.acceptance_law.specs.Proper.{AreBytes, IsProperGuest}
 use Rattle.acceptance_law.specs.ProperLaws.{ProperTurnsLaw}
-use Rattle.acceptance_law.proofs.WritesKeepRelation.{Close, close_refl}
-use Rattle.acceptance_law.proofs.StepsKeepStanding.{state_of, placed, Stands, SkipsRelays}
+use Rattle.acceptance_law.proofs.StepsKeepStanding.{state_of, placed, SkipsRelays}
+use Rattle.acceptance_law.proofs.RunsBegin.{begins_beside}
 use Rattle.acceptance_law.proofs.RunFacts.{Premises, earlier, run_facts, next_turn, turn_known}
 use Rattle.acceptance_law.proofs.StandsOrSkips.{the_start, enclosures, the_run, the_real, control_at, copy_start, Outside}
 use Rattle.acceptance_law.proofs.StandsOrSkips.{Inside}
@@ -61,47 +56,13 @@ module _ (side : NamedSide) (skip : List ℕ) (regions : List Region) (masks : M
     (skips : SkipsRelays side skip regions) (proper : ProperTurnsLaw)
     (rules : are_regions regions ≡ true) (nowhere : is_listed skip 0 ≡ false)
     (is : IsProperGuest (state_of setting secret first store)) (outside : first.region ≡ 0) where
-  start_stands : Stands side skip regions setting.base first default_map store store [] []
-  start_stands = record {
-    beside = record {
-      places = places;
-      registers = refl;
-      memory = refl;
-      real_limits = limits;
-      copy_limits = limits;
-      label_limits = label_limits;
-    };
-    counts = λ point never. refl;
-    runs = subst (λ r. is_listed skip r ≡ false) (sym outside) nowhere;
-    nowhere = λ none. outside;
-    inside = λ region found.
-        let here : None ≡ Some region = subst (λ r. region_numbered regions r ≡ Some region) outside found in
-        absurd (cc);
-    small_break = is.current_break;
-    kept_words = λ r. let word = is.store.kept r in omega (arith, word);
-  }
-    where
-      places : (place : ThePlace) → IsProperPlace setting.base place →
-          Close side (label_at (at_start default_map) place) (at_place setting.base store none_held place)
-          (at_place setting.base store none_held place)
-      places place ip =
-          close_refl side (label_at (at_start default_map) place) (at_place setting.base store none_held place)
-
-      limits : (place : ThePlace) → at_place setting.base store none_held place ≤ place_limit place
-      limits (Register r) = let word = is.store.registers r in omega (arith, word)
-      limits (Byte a) = let byte = is.store.memory (a - setting.base) in omega (arith, byte)
-      limits First = omega arith
-      limits Second = omega arith
-
-      label_limits : (place : ThePlace) → (label_at (at_start default_map) place).mask ≤ place_limit place
-      label_limits (Register r) = omega arith
-      label_limits (Byte a) = omega arith
-      label_limits First = omega arith
-      label_limits Second = omega arith
-
   begins : Outside side skip regions masks setting secret other first store []
   unfolding run_after Real Replay common_turns cross_after
-  begins = record { copy = store; comes = refl; stands = start_stands }
+  begins = record {
+    copy = store;
+    comes = refl;
+    stands = begins_beside side skip regions (state_of setting secret first store) is outside nowhere;
+  }
 
   -- a run of which this is known
   abbrev pub IsKnown : List (List ℕ) → Type 0

@@ -40,6 +40,7 @@ pub mod Leaving
 pub mod Skipping
 pub mod SkipsKeepRelation
 pub mod StepsKeepStanding
+pub mod RunsBegin
 pub mod RegionTurns
 pub mod SkippedTurns
 pub mod TurnKinds

@@ -14,6 +14,7 @@ use Rattle.region_machine.specs.Enclosures.{region_numbered, region_entered_at}
 use Rattle.region_machine.specs.Guests.{looks, looks_at, entry, gives_registers, gives_bytes, gives_ranges, leave}
 use Rattle.region_machine.specs.Guests.{kind_walk, guest_walk}
 use Rattle.region_machine.specs.Runs.{Place as RunPlace, turn_unless}
+use Rattle.region_machine.proofs.RangesStayInside.{found_rules}
 use Rattle.enclosure_regions.specs.declared.break_kinds.Break.{Break}
 use Rattle.rv32im_machine.specs.declared.stepping.Stepped.{Stepped}
 use Rattle.rv32im_machine.specs.declared.stepping.Stepped.TheVariants.{Ran, Exited, Stopped}
@@ -122,22 +123,6 @@ step_orderly (Stopped fault) state guest = guest.current_break
 
 -- ---- the region that is left keeps the rules
 
-found_region : (test : Region → Bool) (regions : List Region) (region : Region) → list_all is_region regions ≡ true →
-    find test regions ≡ Some region → is_region region ≡ true
-found_region test [] region rules e = absurd (cc)
-found_region test (first ∷ regions) region rules e =
-    let both = and_parts (is_region first) (list_all is_region regions) rules in
-    elim (cases_Bool (test first)) [
-      | inl passes ↦
-          let here : Some first ≡ Some region =
-          sym (cond-true (test first) (Some first) (find test regions) passes) ∙ e in
-          let same : first ≡ region = cc in
-          subst (λ (r : Region). is_region r ≡ true) same both.0
-      | inr fails ↦
-          found_region test regions region both.1
-          (sym (cond-false (test first) (Some first) (find test regions) fails) ∙ e)
-    ]
-
 abbrev pub LeavesRegion : Kind → Type 0
 LeavesRegion (Enters region) = Unit {0}
 LeavesRegion (Leaves region) = is_region region ≡ true
@@ -164,7 +149,7 @@ numbered_region regions number region rules e = elim (cases_Bool (number == 0)) 
       let no : None ≡ Some region =
       sym (cond-true (number == 0) None (find (λ other. other.id == number) regions) none) ∙ e in absurd (cc)
   | inr some ↦
-      found_region (λ other. other.id == number) regions region rules
+      found_rules (λ other. other.id == number) regions region rules
       (sym (cond-false (number == 0) None (find (λ other. other.id == number) regions) some) ∙ e)
 ]
 

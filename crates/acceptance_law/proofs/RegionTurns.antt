@@ -26,6 +26,7 @@ use Rattle.run_labels.specs.Traces.{labels_in}
 use Rattle.acceptance_law.specs.Sides.{NamedSide}
 use Rattle.acceptance_law.specs.Proper.{IsProperPlace, place_limit}
 use Rattle.acceptance_law.proofs.WritesKeepRelation.{Close, Beside, put_kept}
+use Rattle.acceptance_law.proofs.Turns.{SameCounts}
 use Rattle.acceptance_law.proofs.TurnsKeepRelation.{CoveredTurn, KeptTurn}
 use Rattle.acceptance_law.proofs.Outputs.{Output, output_place, given}
 use Rattle.acceptance_law.proofs.RegionOutputsPass.{outputs_of, gives_given}
@@ -64,19 +65,11 @@ leave_end setting secret region registers control store =
     (sym (gives_given region registers (Ends (entered 0 control))))
     (given_end setting secret region (outputs_of region registers) (entered 0 control) store none_held)
 
-pub left_region : (control : Control) → (entered 0 control).region ≡ 0
-unfolding entered
-left_region control = refl
-
-pub left_break : (control : Control) → (entered 0 control).current_break ≡ control.current_break
-unfolding entered
-left_break control = refl
-
 pub entered_region : (region : ℕ) (control : Control) → (entered region control).region ≡ region
 unfolding entered
 entered_region region control = refl
 
-entered_break : (region : ℕ) (control : Control) → (entered region control).current_break ≡ control.current_break
+pub entered_break : (region : ℕ) (control : Control) → (entered region control).current_break ≡ control.current_break
 unfolding entered
 entered_break region control = refl
 
@@ -149,6 +142,51 @@ pub ranges_unbroken : (region : Region) (registers : List ℕ) (base : ℕ) → 
 ranges_unbroken region registers base e =
     none_mapped (λ range. RangeOutside region.id range) (outside_range region registers base) e
 
+-- ---- the replay that stands beside the real run does so after an entry and after a leave
+
+module _ (side : NamedSide) (skip : List ℕ) (regions : List Region) (base : ℕ) where
+  pub stands_entered : (control : Control) (labels : LabelMap) (real copy : Store) (past all : List Point)
+      (region : Region) → is_listed skip region.id ≡ false → region_numbered regions region.id ≡ Some region →
+      SameStarts region.ranges real.registers copy.registers → outside_range region real.registers base ≡ None →
+      Stands side skip regions base control labels real copy past all →
+      Stands side skip regions base (entered region.id control) (after Save labels) (saved real) (saved copy) past all
+  stands_entered control labels real copy past all region unskipped numbered starts none at = record {
+    beside = saved_beside side base labels real copy at.beside;
+    counts = at.counts;
+    runs = subst (λ r. is_listed skip r ≡ false) (sym (entered_region region.id control)) unskipped;
+    nowhere = λ lost.
+        let found : region_numbered regions region.id ≡ None =
+        subst (λ r. region_numbered regions r ≡ None) (entered_region region.id control) lost in
+        absurd (cc);
+    inside = λ found is_in.
+        let also : region_numbered regions region.id ≡ Some found =
+        subst (λ r. region_numbered regions r ≡ Some found) (entered_region region.id control) is_in in
+        let same : region ≡ found = some_same region found (sym numbered ∙ also) in
+        subst (λ r. InsideBeside side base r (after Save labels) (saved real) (saved copy)) same
+        (saved_inside side base region labels real copy at.beside starts
+        (inside_at_entry region real.registers base none));
+    small_break = subst (λ b. b < 2 ^ 32) (sym (entered_break region.id control)) at.small_break;
+    kept_words = λ r. subst (λ xs. slice_index xs r ≤ 4294967295) (sym (saved_kept real))
+        (at.beside.real_limits (Register r));
+  }
+
+  pub stands_left : (control : Control) (labels : LabelMap) (real copy : Store) (past all : List Point) →
+      Beside side base (at_start labels) real none_held copy none_held → SameCounts skip past all →
+      is_listed skip 0 ≡ false → control.region ≡ 0 → control.current_break < 2 ^ 32 →
+      ((register : ℕ) → slice_index real.kept register ≤ 4294967295) →
+      Stands side skip regions base control labels real copy past all
+  stands_left control labels real copy past all beside counts outside region_is small_break kept_words = record {
+    beside = beside;
+    counts = counts;
+    runs = subst (λ r. is_listed skip r ≡ false) (sym region_is) outside;
+    nowhere = λ none. region_is;
+    inside = λ found is_in.
+        let here : None ≡ Some found = subst (λ r. region_numbered regions r ≡ Some found) region_is is_in in
+        absurd (cc);
+    small_break = small_break;
+    kept_words = kept_words;
+  }
+
 module _ (side : NamedSide) (skip : List ℕ) (regions : List Region) (masks : Masks) (setting : Setting)
     (secret other : List ℕ) where
   -- ---- the entry of a region that is not skipped
@@ -174,26 +212,8 @@ module _ (side : NamedSide) (skip : List ℕ) (regions : List Region) (masks : M
       let tags = entry_labels setting secret real none_held region control (at_start labels) answers in
       let passed_here = entry_passed setting secret real none_held region control in
       let new = entered region.id control in
-      let stands : Stands side skip regions setting.base new (after Save labels) (saved real) (saved copy) past all =
-      record {
-        beside = saved_beside side setting.base labels real copy at.beside;
-        counts = at.counts;
-        runs = subst (λ r. is_listed skip r ≡ false) (sym (entered_region region.id control)) unskipped;
-        nowhere = λ lost.
-            let found : region_numbered regions region.id ≡ None =
-            subst (λ r. region_numbered regions r ≡ None) (entered_region region.id control) lost in
-            absurd (cc);
-        inside = λ found is_in.
-            let also : region_numbered regions region.id ≡ Some found =
-            subst (λ r. region_numbered regions r ≡ Some found) (entered_region region.id control) is_in in
-            let same : region ≡ found = some_same region found (sym numbered ∙ also) in
-            subst (λ r. InsideBeside side setting.base r (after Save labels) (saved real) (saved copy)) same
-            (saved_inside side setting.base region labels real copy at.beside starts
-            (inside_at_entry region real.registers setting.base none));
-        small_break = subst (λ b. b < 2 ^ 32) (sym (entered_break region.id control)) at.small_break;
-        kept_words = λ r. subst (λ xs. slice_index xs r ≤ 4294967295) (sym (saved_kept real))
-            (at.beside.real_limits (Register r));
-      } in record {
+      let stands = stands_entered side skip regions setting.base control labels real copy past all region unskipped
+      numbered starts none at in record {
         store = saved copy;
         uses =
             ap (λ k. feed (replay_inside (kind_outside_range k (state_of setting other control copy)) enclosures masks
@@ -237,18 +257,11 @@ module _ (side : NamedSide) (skip : List ℕ) (regions : List Region) (masks : M
       (passed all (walked setting secret (leave region real.kept control) real none_held))
   left_stands control labels answers real copy past all region copied outside small words kept =
       let end = leave_end setting secret region real.kept control real in
-      let region_is = ap (λ (c : Control). c.region) end.control_is ∙ left_region control in
-      let break_is = ap (λ (c : Control). c.current_break) end.control_is ∙ left_break control in record {
-        beside = kept.beside;
-        counts = kept.counts;
-        runs = subst (λ r. is_listed skip r ≡ false) (sym region_is) outside;
-        nowhere = λ none. region_is;
-        inside = λ found is_in.
-            let here : None ≡ Some found = subst (λ r. region_numbered regions r ≡ Some found) region_is is_in in
-            absurd (cc);
-        small_break = subst (λ b. b < 2 ^ 32) (sym break_is) small;
-        kept_words = λ r. subst (λ xs. slice_index xs r ≤ 4294967295) (sym end.kept_is) (words r);
-      }
+      let region_is = ap (λ (c : Control). c.region) end.control_is ∙ entered_region 0 control in
+      let break_is = ap (λ (c : Control). c.current_break) end.control_is ∙ entered_break 0 control in
+      stands_left side skip regions setting.base _ _ _ kept.store _ _ kept.beside kept.counts outside region_is
+      (subst (λ b. b < 2 ^ 32) (sym break_is) small)
+      (λ r. subst (λ xs. slice_index xs r ≤ 4294967295) (sym end.kept_is) (words r))
 
   pub leave_stands : (control : Control) (labels : LabelMap) (answers : List ℕ) (real copy : Store)
       (past all : List Point) (region : Region) → kind_of regions control ≡ Leaves region →

@@ -38,7 +38,7 @@ use Rattle.region_machine.specs.Breaking.{walk_break}
 use Rattle.region_machine.specs.Enclosures.{kind_in, kind_within}
 use Rattle.region_machine.specs.Runs.{has_exited}
 use Rattle.run_labels.specs.Answers.{IsSoundAnswer}
-use Rattle.acceptance_law.proofs.RegionTurns.{left_stands, ranges_unbroken}
+use Rattle.acceptance_law.proofs.RegionTurns.{entered_break, entered_region, left_stands, ranges_unbroken}
 use Rattle.acceptance_law.proofs.StepsKeepStanding.{proper_turn}
 use Rattle.acceptance_law.proofs.SkipsKeepRelation.{SkippedTo, skip_kept}
 use Rattle.acceptance_law.proofs.Unchanged.{declared, SamePlace}
@@ -93,14 +93,6 @@ same_inside_later first second third h k = record {
 pub same_inside_refl : (control : Control) → SameInside control control
 same_inside_refl control =
     record { public_at = refl; secret_at = refl; current_break = refl; output = refl; region = refl }
-
-pub region_of_entered : (region : ℕ) (control : Control) → (entered region control).region ≡ region
-unfolding entered
-region_of_entered region control = refl
-
-pub entered_break : (region : ℕ) (control : Control) → (entered region control).current_break ≡ control.current_break
-unfolding entered
-entered_break region control = refl
 
 pub entered_mode : (region : ℕ) (control : Control) → (entered region control).mode ≡ control.mode
 unfolding entered
@@ -192,7 +184,7 @@ module _ (side : NamedSide) (skip : List ℕ) (regions : List Region) (masks : M
         beside = at.beside;
         counts = at.counts;
         skipped = skipped;
-        numbered = subst (λ r. region_numbered regions r ≡ Some region) (sym (region_of_entered region.id control))
+        numbered = subst (λ r. region_numbered regions r ≡ Some region) (sym (entered_region region.id control))
             numbered;
         to = to;
         starts = starts;
@@ -266,7 +258,7 @@ module _ (side : NamedSide) (skip : List ℕ) (regions : List Region) (masks : M
       let on : has_exited control.mode ≡ false = ap (λ m. has_exited m) at.ran in
       let quiet = step_quiet region real.kept control.pc (state_of setting secret control real) on unbroken in
       let slots = step_slots region real.kept control.pc (state_of setting secret control real) unbroken in
-      let here : control.region ≡ region.id = at.quiet.region ∙ region_of_entered region.id entered_by in
+      let here : control.region ≡ region.id = at.quiet.region ∙ entered_region region.id entered_by in
       let stands : is_listed skip control.region ≡ true = subst (λ r. is_listed skip r ≡ true) (sym here) at.skipped in
       record {
         region = region;
@@ -316,7 +308,7 @@ module _ (side : NamedSide) (skip : List ℕ) (regions : List Region) (masks : M
       let region = at.region in
       let walk = walked setting secret (leave region real.kept control) real none_held in
       let alike = same_control control entered_by region.leave region.id at.quiet at.ran at.entry_ran at.nowhere pc in
-      let here : control.region ≡ region.id = at.quiet.region ∙ region_of_entered region.id entered_by in
+      let here : control.region ≡ region.id = at.quiet.region ∙ entered_region region.id entered_by in
       let relay : side.relay region.id ≡ true =
       subst (λ r. side.relay r ≡ true) here (sym (skips control.region region at.numbered)
       ∙ subst (λ r. is_listed skip r ≡ true) (sym here) at.skipped) in

@@ -213,13 +213,13 @@ first_none None later e = (refl, e)
 first_none (Some fault) later e = absurd (cc)
 
 -- what is looked at without a refusal may not depend on the secret
-word_clean : (a b c d : ℕ) (address : ℕ) →
-    (if (a == 0) && ((b == 0) && ((c == 0) && (d == 0))) then None else Some (SecretCode address)) ≡ None →
+pub word_clean : {A : Type 0} (look : A) (a b c d : ℕ) →
+    (if (a == 0) && ((b == 0) && ((c == 0) && (d == 0))) then None else Some look) ≡ None →
     (a ≡ 0) × (b ≡ 0) × (c ≡ 0) × (d ≡ 0)
-word_clean a b c d address e = pick ((a == 0) && ((b == 0) && ((c == 0) && (d == 0)))) refl e
+word_clean look a b c d e = pick ((a == 0) && ((b == 0) && ((c == 0) && (d == 0)))) refl e
   where
     pick : (t : Bool) → ((a == 0) && ((b == 0) && ((c == 0) && (d == 0)))) ≡ t →
-        (if t then None else Some (SecretCode address)) ≡ None → (a ≡ 0) × (b ≡ 0) × (c ≡ 0) × (d ≡ 0)
+        (if t then None else Some look) ≡ None → (a ≡ 0) × (b ≡ 0) × (c ≡ 0) × (d ≡ 0)
     pick true is none =
         let one = and_parts (a == 0) _ is in
         let two = and_parts (b == 0) _ one.1 in
@@ -227,21 +227,22 @@ word_clean a b c d address e = pick ((a == 0) && ((b == 0) && ((c == 0) && (d ==
         (eqb-true a 0 one.0, eqb-true b 0 two.0, eqb-true c 0 three.0, eqb-true d 0 three.1)
     pick false is none = absurd (cc)
 
-base_clean : (a : ℕ) (region register : ℕ) → (if a == 0 then None else Some (BaseSecret region register)) ≡ None → a ≡ 0
-base_clean a region register e = pick (a == 0) refl e
+pub base_clean : {A : Type 0} (look : A) (a : ℕ) → (if a == 0 then None else Some look) ≡ None → a ≡ 0
+base_clean look a e = pick (a == 0) refl e
   where
-    pick : (t : Bool) → (a == 0) ≡ t → (if t then None else Some (BaseSecret region register)) ≡ None → a ≡ 0
+    pick : (t : Bool) → (a == 0) ≡ t → (if t then None else Some look) ≡ None → a ≡ 0
     pick true is none = eqb-true a 0 is
     pick false is none = absurd (cc)
 
-pub look_equal : (side : NamedSide) (base number : ℕ) (labels : TurnLabels) (real : Store) (held : Held) (copy : Store)
-    (taken : Held) → Beside side base labels real held copy taken → (seen : Seen) → IsLook base seen →
-    look_fault number labels seen ≡ None → seen_value base real seen ≡ seen_value base copy seen
-look_equal side base number labels real held copy taken beside (Word address) from e =
+-- what is seen of a word whose bytes have no mask is equal
+pub word_equal : (side : NamedSide) (base : ℕ) (labels : TurnLabels) (real : Store) (held : Held) (copy : Store)
+    (taken : Held) → Beside side base labels real held copy taken → (address : ℕ) → base ≤ address →
+    (byte_mask labels address ≡ 0) × (byte_mask labels (address + 1) ≡ 0) × (byte_mask labels (address + 2) ≡ 0)
+    × (byte_mask labels (address + 3) ≡ 0) → seen_value base real (Word address) ≡ seen_value base copy (Word address)
+word_equal side base labels real held copy taken beside address from none =
     let second_from : base ≤ address + 1 = omega (arith, from) in
     let third_from : base ≤ address + 2 = omega (arith, from) in
     let fourth_from : base ≤ address + 3 = omega (arith, from) in
-    let none = word_clean _ _ _ _ address e in
     let equal : (a : ℕ) → base ≤ a → byte_mask labels a ≡ 0 → byte_of base real a ≡ byte_of base copy a =
     λ a le m. close_equal side (labels.map.bytes a) _ _ m (beside.places (Byte a) le) in
     let one = equal address from none.0 in
@@ -249,8 +250,14 @@ look_equal side base number labels real held copy taken beside (Word address) fr
     let three = equal (address + 2) third_from none.2 in
     let four = equal (address + 3) fourth_from none.3 in
     cc
+
+pub look_equal : (side : NamedSide) (base number : ℕ) (labels : TurnLabels) (real : Store) (held : Held) (copy : Store)
+    (taken : Held) → Beside side base labels real held copy taken → (seen : Seen) → IsLook base seen →
+    look_fault number labels seen ≡ None → seen_value base real seen ≡ seen_value base copy seen
+look_equal side base number labels real held copy taken beside (Word address) from e =
+    word_equal side base labels real held copy taken beside address from (word_clean (SecretCode address) _ _ _ _ e)
 look_equal side base number labels real held copy taken beside (Base register) from e =
-    close_equal side (labels.map.registers register) _ _ (base_clean _ number register e)
+    close_equal side (labels.map.registers register) _ _ (base_clean (BaseSecret number register) _ e)
     (beside.places (Register register) tt)
 
 pub seen_word : (base : ℕ) (store : Store) (held : Held) →

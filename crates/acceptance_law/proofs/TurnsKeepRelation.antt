@@ -81,6 +81,26 @@ pub record KeptTurn (side : NamedSide) (skip : List ℕ) (masks : Masks) (settin
   pub counts : SameCounts skip (passed past walk) (passed all walk)
   pub kept : store.kept ≡ copy.kept
 
+-- what is moved stands beside what is moved, with the label of its source
+module _ (side : NamedSide) (setting : Setting) (secret other : List ℕ) where
+  pub moved_beside : (labels : TurnLabels) (real : Store) (held : Held) (copy : Store) (taken : Held) →
+      Beside side setting.base labels real held copy taken → (place : Place) (shape : Shape) (source : Source) →
+      IsMove setting.base place shape source →
+      Beside side setting.base (put_label place (moved_label labels shape source) labels)
+      (put setting.base place (shaped shape (value_of setting secret real held source ∷ [])) real)
+      (hold place (shaped shape (value_of setting secret real held source ∷ [])) held)
+      (put setting.base place (shaped shape (value_of setting other copy taken source ∷ [])) copy)
+      (hold place (shaped shape (value_of setting other copy taken source ∷ [])) taken)
+  moved_beside labels real held copy taken beside place shape (At from) is =
+      put_beside side setting.base place _ _ _ labels real held copy taken is.0
+      (copied_close side shape (label_at labels from) _ _ (beside.places from is.1))
+      (is.2 _ (beside.real_limits from)) (is.2 _ (beside.copy_limits from))
+      (label_of_limit _ _ _ (is.2 _ (beside.label_limits from))) beside
+  moved_beside labels real held copy taken beside place shape (Constant value) is =
+      put_beside side setting.base place clean _ _ labels real held copy taken is.0
+      (close_refl side clean (shaped shape (value ∷ []))) is.1 is.1 (omega arith) beside
+  moved_beside labels real held copy taken beside place shape (Secret index) is = absurd is
+
 module _ (side : NamedSide) (skip : List ℕ) (masks : Masks) (setting : Setting) (secret other : List ℕ)
     (bytes : AreBytes secret) (others : AreBytes other) (number region : ℕ)
     (away : (region == 0) ≡ false → side.relay region ≡ false)
@@ -219,24 +239,6 @@ module _ (side : NamedSide) (skip : List ℕ) (masks : Masks) (setting : Setting
 
   -- ---- one turn
 
-  moved : (labels : TurnLabels) (real : Store) (held : Held) (copy : Store) (taken : Held) →
-      Beside side setting.base labels real held copy taken → (place : Place) (shape : Shape) (source : Source) →
-      IsMove setting.base place shape source →
-      Beside side setting.base (put_label place (moved_label labels shape source) labels)
-      (put setting.base place (shaped shape (value_of setting secret real held source ∷ [])) real)
-      (hold place (shaped shape (value_of setting secret real held source ∷ [])) held)
-      (put setting.base place (shaped shape (value_of setting other copy taken source ∷ [])) copy)
-      (hold place (shaped shape (value_of setting other copy taken source ∷ [])) taken)
-  moved labels real held copy taken beside place shape (At from) is =
-      put_beside side setting.base place _ _ _ labels real held copy taken is.0
-      (copied_close side shape (label_at labels from) _ _ (beside.places from is.1))
-      (is.2 _ (beside.real_limits from)) (is.2 _ (beside.copy_limits from))
-      (label_of_limit _ _ _ (is.2 _ (beside.label_limits from))) beside
-  moved labels real held copy taken beside place shape (Constant value) is =
-      put_beside side setting.base place clean _ _ labels real held copy taken is.0
-      (close_refl side clean (shaped shape (value ∷ []))) is.1 is.1 (omega arith) beside
-  moved labels real held copy taken beside place shape (Secret index) is = absurd is
-
   pub turn_kept : (turn : Turn) (labels : TurnLabels) (answers : List ℕ) (real : Store) (held : Held) (copy : Store)
       (taken : Held) (past all : List Point) → IsProper setting.base region turn →
       Beside side setting.base labels real held copy taken → SameCounts skip past all →
@@ -336,7 +338,8 @@ module _ (side : NamedSide) (skip : List ℕ) (masks : Masks) (setting : Setting
         kept = rest.kept;
       }
   turn_kept (Moves place shape source turn) labels answers real held copy taken past all proper beside counts covered =
-      let here = moved labels real held copy taken beside place shape source proper.0 in
+      let here = moved_beside side setting secret other labels real held copy taken beside place shape source proper.0
+      in
       let rest = turn_kept turn _ answers _ _ _ _ past all proper.1 here counts
       (record {
         sound = covered.sound;

@@ -1,16 +1,8 @@
 ghost use Rattle.std.specs.Prelude.{◌≡◌, IfOk};
 
-use crate::points::{CutPoint, Run};
+use crate::points::CutPoint;
 use flow_base::{List, NoMemory};
 use std::alloc::Global;
-
-/// A copy of runs. Its error is lack of memory.
-pub fn copy_runs(alloc: Global, runs: &[Run]) -> Result<List<Run>, NoMemory>
-    ensures { IfOk result (λ copy. copy ≡ runs.now) }
-{
-    let items = runs.to_vec(alloc)?;
-    Ok(List::from_vec(items))
-}
 
 /// A copy of a point with its masks.
 pub(crate) fn copy_point(alloc: Global, cut_point: &CutPoint) -> Result<CutPoint, NoMemory>
@@ -18,8 +10,8 @@ pub(crate) fn copy_point(alloc: Global, cut_point: &CutPoint) -> Result<CutPoint
 {
     Ok(CutPoint {
         point: cut_point.point,
-        runs: copy_runs(alloc, cut_point.runs.as_slice())?,
-        rest: copy_runs(alloc, cut_point.rest.as_slice())?,
+        runs: List::from_slice(alloc, cut_point.runs.as_slice())?,
+        rest: List::from_slice(alloc, cut_point.rest.as_slice())?,
     })
 }
 
@@ -36,12 +28,4 @@ pub(crate) fn copy_points(
         copies.push(copy)?;
     }
     Ok(copies)
-}
-
-/// A copy of a list of numbers, as those of regions. Its error is lack of memory.
-pub fn copy_numbers(alloc: Global, numbers: &List<u16>) -> Result<List<u16>, NoMemory>
-    ensures { IfOk result (λ copy. copy ≡ numbers.now) }
-{
-    let items = numbers.as_slice().to_vec(alloc)?;
-    Ok(List::from_vec(items))
 }

@@ -5,7 +5,7 @@ ghost use Rattle.cut_file.specs.Folds.{is_period as is_period_of, IsFold, IsFold
 ghost use Rattle.cut_file.specs.Masks.{listed_masks};
 ghost use Rattle.cut_file.specs.Pictures.{cut_picture};
 
-use crate::copies::{copy_numbers, copy_point};
+use crate::copies::copy_point;
 use crate::cuts::Cut;
 use crate::points::{CutPoint, Run};
 use flow_base::{List, NoMemory};
@@ -161,7 +161,7 @@ pub fn fold(alloc: Global, cut: &Cut) -> Result<Cut, NoMemory>
     requires { cut.now.version ≡ 1 }
     ensures { IfOk result (λ folded. IsFold (cut_picture cut.now) (cut_picture folded)) }
 {
-    let skip = copy_numbers(alloc, &cut.skip)?;
+    let skip = List::from_slice(alloc, cut.skip.as_slice())?;
     let points = points_of(alloc, cut)?;
     Ok(Cut {
         version: 2,

@@ -18,7 +18,6 @@ mod reading;
 mod words;
 mod writing;
 
-pub use copies::{copy_numbers, copy_runs};
 pub use cuts::Cut;
 pub use faults::CutFault;
 pub use folding::fold;

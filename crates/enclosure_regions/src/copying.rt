@@ -1,22 +1,9 @@
 ghost use Rattle.std.specs.Prelude.{◌≡◌, IfOk};
 
 use crate::region_lists::Regions;
-use crate::region_parts::{Range, Region};
+use crate::region_parts::Region;
 use flow_base::{List, NoMemory};
 use std::alloc::Global;
-
-fn copy_registers(alloc: Global, registers: &List<u8>) -> Result<List<u8>, NoMemory>
-    ensures { IfOk result (λ copy. copy ≡ registers.now) }
-{
-    List::from_slice(alloc, registers.as_slice())
-}
-
-fn copy_ranges(alloc: Global, ranges: &List<Range>) -> Result<List<Range>, NoMemory>
-    ensures { IfOk result (λ copy. copy ≡ ranges.now) }
-{
-    let items = ranges.as_slice().to_vec(alloc)?;
-    Ok(List::from_vec(items))
-}
 
 fn copy_region(alloc: Global, region: &Region) -> Result<Region, NoMemory>
     ensures { IfOk result (λ copy. copy ≡ region.now) }
@@ -25,9 +12,9 @@ fn copy_region(alloc: Global, region: &Region) -> Result<Region, NoMemory>
         id: region.id,
         enter: region.enter,
         leave: region.leave,
-        outs: copy_registers(alloc, &region.outs)?,
-        keep: copy_registers(alloc, &region.keep)?,
-        ranges: copy_ranges(alloc, &region.ranges)?,
+        outs: List::from_slice(alloc, region.outs.as_slice())?,
+        keep: List::from_slice(alloc, region.keep.as_slice())?,
+        ranges: List::from_slice(alloc, region.ranges.as_slice())?,
     })
 }
 

@@ -18,6 +18,7 @@ use Rattle.region_machine.specs.Runs.{Place, Real, turn_unless}
 use Rattle.rv32im_machine.specs.declared.stepping.Stepped.{Stepped}
 use Rattle.rv32im_machine.specs.declared.stepping.Stepped.TheVariants.{Ran, Exited, Stopped}
 use Rattle.rv32im_machine.specs.State.{State}
+use Rattle.masked_turns.proofs.CutNumbers.{small_masks}
 use Rattle.every_secret.specs.declared.path_ends.PathEnd.{PathEnd}
 use Rattle.every_secret.specs.declared.path_ends.PathEnd.TheVariants.{Exits, Stops, Unclear}
 use Rattle.every_secret.specs.declared.patterns.Pattern.{Pattern}
@@ -36,7 +37,7 @@ use Rattle.every_secret.proofs.Lists.{each_weaker}
 use Rattle.every_secret.proofs.PatternOutputs.{HasWords, few_outputs}
 use Rattle.every_secret.proofs.Trees.{fed_descends}
 use Rattle.every_secret.proofs.WalkWeights.{replay_weight}
-use Rattle.every_secret.proofs.WalkWords.{cut_masks_fit, replay_words}
+use Rattle.every_secret.proofs.WalkWords.{replay_words}
 
 -- ---- a run has one output, and with no region it breaks none
 
@@ -104,7 +105,7 @@ module _ (run : RunLaw) (rules : Rules) (program : Picture) (seen : List ℕ) (r
       let all = judges in
       all.words tt
       (paths_from_ends EndsInWords (tree_of walks)
-      (replay_words rules (task_of program seen regions cut) limits (cut_masks_fit cut.points)))
+      (replay_words rules (task_of program seen regions cut) limits (small_masks cut.points)))
 
   -- of a public input for which the one stands that is seen
   module _ (input : List ℕ) (public : AreSeenAs rules.public seen input) (inputs : AreInputs program input regions [])

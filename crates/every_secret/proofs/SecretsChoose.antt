@@ -32,8 +32,8 @@ use Rattle.acceptance_law.proofs.ProperStarts.{guest_start_law}
 use Rattle.acceptance_law.proofs.StepsKeepStanding.{state_of}
 use Rattle.acceptance_law.proofs.TurnKinds.{enters_outside, inside_turn, leaves_inside, numbered_id, numbered_rules, steps_inside}
 use Rattle.masked_turns.proofs.CutNumbers.{small_masks, valid_skip}
-use Rattle.masked_turns.proofs.OutsideMasks.{AreSmall}
-use Rattle.masked_turns.proofs.RunsBegin.{begins_beside}
+use Rattle.acceptance_law.proofs.RunsBegin.{begins_beside}
+use Rattle.masked_turns.proofs.OutsideMasks.{AreSmall, everything}
 use Rattle.every_secret.specs.declared.path_ends.PathEnd.TheVariants.{Stops}
 use Rattle.every_secret.specs.declared.stops.PathStop.TheVariants.{Turns}
 use Rattle.every_secret.specs.AllSecrets.{IsSecret}
@@ -360,7 +360,7 @@ run_law rules program seen public_input regions secret cut limits sound public i
     ap (λ n. replay_fresh (state_of (record setting { public_input = seen; secret_length = n }) other state.control
     state.store)) long in
     let nowhere = valid_skip cut valid in
-    let begins = begins_beside cut.skip regions state is refl nowhere in
+    let begins = begins_beside everything cut.skip regions state is refl nowhere in
     settled rules sound task limits setting seen secret other inputs.secret_bytes (zero_bytes cut.secret_len) public
     is.start_break (small_masks cut.points) proper_law is_secret low whole inputs.regions_valid nowhere
     (inr (inl (record {

@@ -41,9 +41,10 @@ use Rattle.shadow_masks.specs.Writes.{LabelMap}
 use Rattle.shadow_masks.specs.Pages.{label_of}
 use Rattle.transfer_rules.specs.Table1.{flipped}
 use Rattle.acceptance_law.specs.Proper.{AreBytes, IsMove, IsPassing, FitsPlace, IsProper, place_limit}
-use Rattle.acceptance_law.proofs.AgreeOutsideMask.{agree_zero, patched_uncrossed}
+use Rattle.acceptance_law.proofs.AgreeOutsideMask.{patched_uncrossed}
 use Rattle.acceptance_law.proofs.Passings.{first_word, made_agrees, made_fits, mask_fits, patched_slot, second_word, slot_word}
 use Rattle.acceptance_law.proofs.Turns.{feed_bits, label_of_limit, seen_word}
+use Rattle.acceptance_law.proofs.TurnsKeepRelation.{moved_beside}
 use Rattle.acceptance_law.proofs.WritesKeepRelation.{Beside, Close, close_refl, fresh_beside, put_beside, put_kept, put_label_kept}
 use Rattle.masked_turns.specs.declared.uses.LeftBits.{LeftBits}
 use Rattle.masked_turns.specs.declared.uses.SecretLook.{SecretLook}
@@ -52,8 +53,8 @@ use Rattle.masked_turns.specs.Clearing.{Cutting, uncrossed}
 use Rattle.masked_turns.specs.Deciding.{left_at}
 use Rattle.masked_turns.specs.Looking.{look_at}
 use Rattle.masked_turns.proofs.LooksAgree.{look_same}
-use Rattle.masked_turns.proofs.MovesAgree.{moved_beside}
-use Rattle.masked_turns.proofs.OutsideMasks.{AreSmall, close_of, decided_none, everything}
+use Rattle.masked_turns.proofs.OutsideMasks.{AreSmall, close_of, everything}
+use Rattle.masked_turns.proofs.PassedValues.{decided_equal as values_equal, put_agreed}
 use Rattle.every_secret.specs.declared.whys.UnclearWhy.{UnclearWhy}
 use Rattle.every_secret.specs.declared.public_inputs.PublicInput.{PublicInput}
 use Rattle.every_secret.specs.declared.public_inputs.PublicInput.TheVariants.{Given, Any}
@@ -312,7 +313,7 @@ module _ (rules : Rules) (cutting : Cutting) (setting : Setting) (secret other :
         (hold place (shaped shape (value_of setting secret real held source ∷ [])) held)
         (put setting.base place (shaped shape (value ∷ [])) copy) (hold place (shaped shape (value ∷ [])) taken))
         (sym (same_value_of setting seen other copy taken source))
-        (moved_beside setting secret other labels real held copy taken beside place shape source is)
+        (moved_beside everything setting secret other labels real held copy taken beside place shape source is)
 
     -- what moves without a passing in two runs, one of which may see another public input
     pub moves_beside : (place : Place) (shape : Shape) (source : Source) → IsMove setting.base place shape source →
@@ -453,14 +454,10 @@ module _ (rules : Rules) (sound : AreSoundRules rules) (cutting : Cutting) (smal
 
     -- what is decided is equal in the three runs
     pub decided_equal : left_at Decision point mask_left ≡ None → real_value ≡ passed_value
-    decided_equal none =
-        agree_zero real_value passed_value
-        (subst (λ m. Agree m real_value passed_value) (decided_none point mask_left none) left_agrees)
+    decided_equal none = values_equal point mask_left real_value passed_value left_agrees none
 
     pub decided_twin : left_at Decision point mask_left ≡ None → real_value ≡ passed_twin
-    decided_twin none =
-        agree_zero real_value passed_twin
-        (subst (λ m. Agree m real_value passed_twin) (decided_none point mask_left none) twin_left)
+    decided_twin none = values_equal point mask_left real_value passed_twin twin_left none
 
     -- and what is shown agrees outside its free bits
     pub shown_agree : left_at Decision point mask_left ≡ None →
@@ -475,25 +472,17 @@ module _ (rules : Rules) (sound : AreSoundRules rules) (cutting : Cutting) (smal
         Beside everything setting.base (put_label place (label_of mask_left nowhere) labels)
         (put setting.base place real_value real) (hold place real_value held)
         (put setting.base place passed_value copy) (hold place passed_value taken)
-    put_passed place put =
-        let width = put.1 in
-        let a = real_fits in let b = passed_fits in let m = left_fits in
-        let mask : mask_left ≤ place_limit place = omega (arith, m, width) in
-        put_beside everything setting.base place (label_of mask_left nowhere) real_value passed_value labels real held copy
-        taken put.0 (close_of mask_left real_value passed_value left_agrees) (omega (arith, a, width))
-        (omega (arith, b, width)) (label_of_limit mask_left nowhere (place_limit place) mask) beside
+    put_passed place fits =
+        put_agreed setting.base labels real held copy taken beside point place fits mask_left real_value passed_value
+        left_fits real_fits passed_fits left_agrees
 
     pub put_twin : (place : Place) → FitsPlace setting.base point place →
         Beside everything setting.base (put_label place (label_of mask_left nowhere) labels)
         (put setting.base place real_value real) (hold place real_value held)
         (put setting.base place passed_twin twin) (hold place passed_twin lent)
-    put_twin place put =
-        let width = put.1 in
-        let a = real_fits in let b = twin_passed_fits in let m = left_fits in
-        let mask : mask_left ≤ place_limit place = omega (arith, m, width) in
-        put_beside everything setting.base place (label_of mask_left nowhere) real_value passed_twin labels real held twin
-        lent put.0 (close_of mask_left real_value passed_twin twin_left) (omega (arith, a, width))
-        (omega (arith, b, width)) (label_of_limit mask_left nowhere (place_limit place) mask) also
+    put_twin place fits =
+        put_agreed setting.base labels real held twin lent also point place fits mask_left real_value passed_twin left_fits
+        real_fits twin_passed_fits twin_left
 
     -- ---- what follows the passing
 

@@ -28,8 +28,8 @@ use Rattle.run_labels.specs.TurnLabels.{at_start}
 use Rattle.acceptance_law.specs.Proper.{AreBytes, IsProperGuest, IsProper}
 use Rattle.acceptance_law.specs.ProperLaws.{ProperTurnsLaw}
 use Rattle.acceptance_law.proofs.Entering.{SameStarts, entry_end, outside_same}
-use Rattle.acceptance_law.proofs.RegionTurns.{leave_end, left_break, left_region, ranges_unbroken}
-use Rattle.acceptance_law.proofs.SkippedTurns.{entered_break, entered_mode, entered_to, region_of_entered, same_control}
+use Rattle.acceptance_law.proofs.RegionTurns.{entered_break, entered_region, leave_end, ranges_unbroken, stands_left}
+use Rattle.acceptance_law.proofs.SkippedTurns.{entered_mode, entered_to, same_control}
 use Rattle.acceptance_law.proofs.SkippedTurns.{same_inside_later, same_inside_refl}
 use Rattle.acceptance_law.proofs.QuietInsideRegions.{SameInside, step_quiet}
 use Rattle.acceptance_law.proofs.Unchanged.{declared}
@@ -38,7 +38,6 @@ use Rattle.acceptance_law.proofs.StepsKeepStanding.{HasRules, placed, state_of}
 use Rattle.acceptance_law.proofs.WritesKeepRelation.{Beside}
 use Rattle.masked_turns.proofs.GuestStates.{guest_within}
 use Rattle.masked_turns.proofs.OutsideMasks.{AreSmall, everything}
-use Rattle.masked_turns.proofs.RegionsKeepStanding.{stands_left}
 use Rattle.masked_turns.proofs.StepEnds.{step_ends}
 use Rattle.every_secret.specs.Masked.{MaskedPlace, Reached, masked}
 use Rattle.every_secret.specs.Rules.{AreSoundRules, Rules}
@@ -196,7 +195,7 @@ module _ (rules : Rules) (sound : AreSoundRules rules) (task : Task) (setting : 
           also = also.beside;
           skipped = skipped;
           numbered = subst (λ r. region_numbered task.enclosures.regions r ≡ Some region)
-              (sym (region_of_entered region.id here)) numbered;
+              (sym (entered_region region.id here)) numbered;
           to = entered_to setting.base region before real at.beside.real_limits at.beside.label_limits;
           clear = clear;
           inside = inside_at_entry region real.registers setting.base
@@ -280,13 +279,14 @@ module _ (rules : Rules) (sound : AreSoundRules rules) (task : Task) (setting : 
         made (inl met) = inl (subst (λ asker. IsMet asker) (sym skip_asks) met)
         made (inr along) =
             let end = leave_end setting secret region real.kept now real in
-            let region_is = ap (λ (c : Control). c.region) end.control_is ∙ left_region now in
-            let break_is = ap (λ (c : Control). c.current_break) end.control_is ∙ left_break now in
+            let region_is = ap (λ (c : Control). c.region) end.control_is ∙ entered_region 0 now in
+            let break_is = ap (λ (c : Control). c.current_break) end.control_is ∙ entered_break 0 now in
             let stays : (changed : Store) →
             Beside everything setting.base (at_start along.place.labels) (real_end walk).store none_held changed none_held →
             Standing (real_end walk).control along.place.labels (real_end walk).store changed (passed past walk) =
             λ changed beside.
-            stands_left task.enclosures.skip task.enclosures.regions setting.base _ _ _ changed _ beside outside region_is
+            stands_left everything task.enclosures.skip task.enclosures.regions setting.base _ _ _ changed _ _ beside
+            (λ point never. refl) outside region_is
             (subst (λ b. b < 2 ^ 32) (sym break_is) at.small_break)
             (λ r. subst (λ xs. slice_index xs r ≤ 4294967295) (sym (end.kept_is ∙ at.to.kept))
             (at.beside.real_limits (Register r))) in inr (record {

@@ -31,14 +31,14 @@ use Rattle.acceptance_law.specs.Proper.{AreBytes, IsProperGuest, IsProper}
 use Rattle.acceptance_law.specs.ProperLaws.{ProperTurnsLaw}
 use Rattle.acceptance_law.proofs.StepsKeepStanding.{HasRules, InsideBeside, Stands, kept_moved, placed, state_of}
 use Rattle.acceptance_law.proofs.Entering.{SameStarts, entry_crossing, entry_end, entry_passed, entry_replayed, outside_same}
-use Rattle.acceptance_law.proofs.RegionTurns.{leave_end, left_break, left_region, ranges_unbroken}
+use Rattle.acceptance_law.proofs.RegionTurns.{entered_break, entered_region, leave_end, ranges_unbroken}
+use Rattle.acceptance_law.proofs.RegionTurns.{stands_entered, stands_left}
 use Rattle.masked_turns.specs.declared.uses.SecretLook.TheVariants.{BaseRegister}
 use Rattle.masked_turns.specs.Clearing.{Cutting}
 use Rattle.acceptance_law.proofs.Unchanged.{EndsProper}
 use Rattle.acceptance_law.proofs.WritesKeepRelation.{Beside, close_equal}
 use Rattle.masked_turns.proofs.GuestStates.{guest_within}
 use Rattle.masked_turns.proofs.OutsideMasks.{AreSmall, everything}
-use Rattle.masked_turns.proofs.RegionsKeepStanding.{stands_entered, stands_left}
 use Rattle.masked_turns.proofs.StepEnds.{step_ends}
 use Rattle.every_secret.specs.AnyPublic.{AreSeenAs}
 use Rattle.every_secret.specs.Masked.{Goes, MaskedPlace, Reached, masked, unless_met, unclear_by_look}
@@ -325,8 +325,8 @@ module _ (rules : Rules) (sound : AreSoundRules rules) (task : Task) (setting : 
           λ store same old.
           subst (λ (s : State). At s.control (after Save labels) s.store (saved store) (passed past walk)) (sym end)
           (subst (λ p. At new (after Save labels) (saved real) (saved store) p) (sym passed_here)
-          (stands_entered task.enclosures.skip task.enclosures.regions setting.base here labels real store past region
-          unskipped numbered same none old)) in record {
+          (stands_entered everything task.enclosures.skip task.enclosures.regions setting.base here labels real store past
+          past region unskipped numbered same none old)) in record {
             chosen = [];
             place = walking_at sees other (entered region.id shown) (saved copy) past (after Save labels) crossed masks
                 mask;
@@ -420,12 +420,13 @@ module _ (rules : Rules) (sound : AreSoundRules rules) (task : Task) (setting : 
       turned (inl met) = inl (subst (λ asker. IsMet asker) (sym asks) met)
       turned (inr along) =
           let end = leave_end setting secret region real.kept here real in
-          let region_is = ap (λ (c : Control). c.region) end.control_is ∙ left_region here in
-          let break_is = ap (λ (c : Control). c.current_break) end.control_is ∙ left_break here in
+          let region_is = ap (λ (c : Control). c.region) end.control_is ∙ entered_region 0 here in
+          let break_is = ap (λ (c : Control). c.current_break) end.control_is ∙ entered_break 0 here in
           let stays : (changed : Store) →
           Beside everything setting.base (at_start along.place.labels) (real_end walk).store none_held changed none_held →
           At (real_end walk).control along.place.labels (real_end walk).store changed (passed past walk) = λ changed beside.
-          stands_left task.enclosures.skip task.enclosures.regions setting.base _ _ _ changed _ beside outside region_is
+          stands_left everything task.enclosures.skip task.enclosures.regions setting.base _ _ _ changed _ _ beside
+          (λ point never. refl) outside region_is
           (subst (λ b. b < 2 ^ 32) (sym break_is) at.small_break)
           (λ r. subst (λ xs. slice_index xs r ≤ 4294967295) (sym end.kept_is) (at.kept_words r)) in inr (record {
             chosen = along.chosen;

@@ -1,23 +1,17 @@
 -- The masks of the patterns in which walks end are words.
 use Rattle.std.proofs.Common.{ℕ, zero, suc, ◌≤◌, ◌<◌, ◌^◌, List, [], ◌∷◌, ◌++◌, Bool, true, false, Option, Some, None, arith}
-use Rattle.std.specs.Prelude.{if◌then◌else◌, nat_lt}
+use Rattle.std.specs.Prelude.{nat_lt}
 use Rattle.std.proofs.lemmas.Nat.{and_le_r}
-use Rattle.flow_base.specs.declared.points.Point.{Point}
-use Rattle.flow_base.specs.PointOrders.{is_same}
-use Rattle.flow_base.specs.Points.{width_of}
 use Rattle.flow_base.specs.Words.{patched}
 use Rattle.crossing_bits.specs.Askers.{Asker, Over, then_ask}
-use Rattle.cut_file.specs.declared.points.CutPoint.{CutPoint}
-use Rattle.cut_file.specs.Masks.{MaskAt, listed_mask, mask_of}
-use Rattle.acceptance_law.proofs.Passings.{slot_word}
 use Rattle.lockstep_replay.specs.Tasks.{Limits, Task, replay_start}
 use Rattle.masked_turns.specs.Clearing.{Cutting, crossing_at, passing_mask}
 use Rattle.masked_turns.specs.Deciding.{left_at}
 use Rattle.masked_turns.specs.Looking.{look_at}
+use Rattle.masked_turns.proofs.OutsideMasks.{AreSmall}
 use Rattle.region_machine.specs.Enclosures.{kind_of}
 use Rattle.replay_machine.specs.declared.outsides.Outside.{Outside}
 use Rattle.replay_machine.specs.ReplayTurns.{kind_outside_range, replay_kind_walk}
-use Rattle.replay_machine.specs.Runs.{Masks}
 use Rattle.run_labels.specs.Runs.{entered_number}
 use Rattle.run_labels.specs.TurnLabels.{put_label, save_labels, restore_labels}
 use Rattle.rv32im_machine.specs.declared.stepping.Stepped.{Stepped}
@@ -40,23 +34,6 @@ use Rattle.every_secret.specs.Visits.{Knowledge, answer_at, differing_at, known_
 use Rattle.every_secret.proofs.JudgedPaths.{EndsInWords}
 use Rattle.every_secret.proofs.PathWeights.{AllEnd, forks_all}
 use Rattle.every_secret.proofs.PatternOutputs.{AreWords}
-
--- ---- the masks of a cut
-
-abbrev pub FitWords : Masks → Type 0
-FitWords masks = (point : Point) (visit : ℕ) → masks point visit < 2 ^ 32
-
-pub cut_masks_fit : (points : List CutPoint) → FitWords (MaskAt points)
-cut_masks_fit [] point visit = omega arith
-cut_masks_fit (cut_point ∷ points) point visit =
-    pick (is_same cut_point.point point) (cut_masks_fit points point visit)
-  where
-    pick : (same : Bool) → MaskAt points point visit < 2 ^ 32 →
-        (if same then mask_of cut_point visit else MaskAt points point visit) < 2 ^ 32
-    pick true later =
-        slot_word cut_point.point.slot (mask_of cut_point visit)
-        (and_le_r (listed_mask cut_point visit) (width_of cut_point.point.slot))
-    pick false later = later
 
 -- ---- what a walk has so far
 
@@ -89,7 +66,7 @@ module _ (rules : Rules) (next : Reached → Asker PathEnd)
   met_words None rest all = all
   met_words (Some why) rest all = meets why
 
-  walk_words : (cutting : Cutting) → FitWords cutting.masks → (region : ℕ) (known : Knowledge) (walk : Walk) →
+  walk_words : (cutting : Cutting) → AreSmall cutting.masks → (region : ℕ) (known : Knowledge) (walk : Walk) →
       KeepsWords known.byte_masks known.status_mask →
       AllEnd EndsInWords (tree_of (then_ask (masked rules cutting region known walk) next))
   unfolding masked tree_of
@@ -162,7 +139,7 @@ over_end : (e : PathEnd) → EndsInWords e → AllEnd EndsInWords (tree_of (Over
 unfolding tree_of
 over_end e one = one
 
-walked_words : (rules : Rules) (task : Task) (limits : Limits) → FitWords task.masks → (turns : ℕ)
+walked_words : (rules : Rules) (task : Task) (limits : Limits) → AreSmall task.masks → (turns : ℕ)
     (place : MaskedPlace) → KeepsWords place.byte_masks place.status_mask →
     AllEnd EndsInWords (tree_of (walked_on rules task limits turns place))
 unfolding walked_on tree_of
@@ -184,7 +161,7 @@ walked_words rules task limits fit (suc turns) place keeps =
     (walk_words rules next goes meets halts (cutting_of task kind) fit (entered_number kind) (knowledge_at place)
     (replay_kind_walk task.enclosures kind place.state) keeps))
 
-pub replay_words : (rules : Rules) (task : Task) (limits : Limits) → FitWords task.masks →
+pub replay_words : (rules : Rules) (task : Task) (limits : Limits) → AreSmall task.masks →
     AllEnd EndsInWords (tree_of (MaskedReplay rules task limits))
 replay_words rules task limits fit =
     walked_words rules task limits fit limits.turns (masked_start (replay_start task))

@@ -32,7 +32,7 @@ pub use points::{Point, Slot};
 pub use putting::{Sink, SinkFault};
 pub use register_file::Registers;
 pub use register_names::register_named;
-pub use text_pieces::{after, put, put_number, put_slot};
+pub use text_pieces::{after, byte_at, put, put_number, put_slot, skip};
 pub use text_words::{
     hex_word_named, number_in_front, number_named, slot_in_front, slot_named, word_in_front,
 };

@@ -83,12 +83,12 @@ impl<T: Drop> List<T> {
     }
 }
 
-impl List<u8> {
-    /// A copy of a slice of bytes. The one error is `NoMemory`.
-    pub fn from_slice(alloc: Global, bytes: &[u8]) -> Result<Bytes, NoMemory>
-        ensures { IfOk result (λ copy. copy ≡ bytes.now) }
+impl<T: Copy> List<T> {
+    /// A copy of a slice. The one error is `NoMemory`.
+    pub fn from_slice(alloc: Global, items: &[T]) -> Result<List<T>, NoMemory>
+        ensures { IfOk result (λ copy. copy ≡ items.now) }
     {
-        let items = bytes.to_vec(alloc).map_err(|_| NoMemory)?;
+        let items = Vec::from_slice(alloc, items).map_err(|_| NoMemory)?;
         Ok(List { items })
     }
 }

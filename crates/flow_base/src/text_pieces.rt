@@ -1,4 +1,4 @@
-ghost use Rattle.std.specs.Prelude.{◌≡◌, ◌++◌, OnOk, OnErr, option_map};
+ghost use Rattle.std.specs.Prelude.{◌≡◌, ◌++◌, OnOk, OnErr, drop, option_map, slice_index};
 ghost use Rattle.std.specs.Fmt.{decimal};
 ghost use Rattle.flow_base.specs.Points.{slot_text};
 ghost use Rattle.flow_base.specs.TextPieces.{after_text};
@@ -13,6 +13,23 @@ pub fn after<'a>(wanted: &[u8], bytes: &'a [u8]) -> Option<&'a [u8]>
     ensures { option_map (λ rest. rest.now) result ≡ after_text wanted.now bytes.entry.now }
 {
     bytes.strip_prefix(wanted)
+}
+
+/// The byte at an index; 0 where the bytes end before it.
+pub fn byte_at(bytes: &[u8], index: usize) -> u8
+    ensures { result ≡ slice_index bytes.now index }
+{
+    match bytes.get(index) {
+        Some(byte) => *byte,
+        None => 0,
+    }
+}
+
+/// What stands after the first bytes, so many of them; nothing where there are no more.
+pub fn skip(bytes: &[u8], count: usize) -> &[u8]
+    ensures { result.now ≡ drop count bytes.now }
+{
+    &bytes[count.min(bytes.len())..]
 }
 
 /// Puts bytes at the end of a text. The one error is `NoMemory`; the text is then as it was.

@@ -1,6 +1,6 @@
 //! What a text says, read as its Display writes it: numbers in decimal, words in hexadecimal and slots.
 
-ghost use Rattle.std.specs.Prelude.{◌≡◌, ◌≤◌, ◌<◌, ◌^◌, ℕ, None, drop, slice_index, IfSome, IsTrue};
+ghost use Rattle.std.specs.Prelude.{◌≡◌, ◌≤◌, ◌<◌, ◌^◌, ℕ, None, IfSome, IsTrue};
 ghost use Rattle.std.specs.Fmt.{decimal};
 ghost use Rattle.std.specs.Str.{bytes_eq};
 ghost use Rattle.flow_base.specs.HexWords.{hex_word as hex_word_of};
@@ -11,24 +11,7 @@ ghost use Rattle.flow_base.specs.TextWords.{short_number, slot_at, slot_in, word
 
 use crate::hex_words::{digit, hex_word};
 use crate::points::Slot;
-use crate::text_pieces::after;
-
-// The byte at an index, or 0.
-fn byte_at(bytes: &[u8], index: usize) -> u8
-    ensures { result ≡ slice_index bytes.now index }
-{
-    match bytes.get(index) {
-        Some(byte) => *byte,
-        None => 0,
-    }
-}
-
-// What stands after the first bytes, so many of them.
-fn skip(bytes: &[u8], count: usize) -> &[u8]
-    ensures { result.now ≡ drop count bytes.now }
-{
-    &bytes[count.min(bytes.len())..]
-}
+use crate::text_pieces::{after, byte_at, skip};
 
 // A number with one decimal digit more. One of more than 48 bits stays as it is.
 #[tactic(auto, unfolding(crate::specs::TextWords::grown))]

@@ -1,29 +1,12 @@
-ghost use Rattle.std.specs.Prelude.{◌≡◌, drop, slice_index};
+ghost use Rattle.std.specs.Prelude.{◌≡◌};
 ghost use Rattle.flow_certificate.specs.Private.Guessing.{below as below_limit, end_at as end_in, guess as guessed};
 ghost use Rattle.flow_certificate.specs.Private.Guessing.{half_of as half_named, link_at as link_in, point_at as point_in};
 ghost use Rattle.flow_certificate.specs.Private.Guessing.{relay_at as relay_in};
 
 use crate::lines::{Line, LinkLine, PointLine, RelayLine};
-use flow_base::{Point, number_in_front, slot_in_front, word_in_front};
+use flow_base::{Point, byte_at, number_in_front, skip, slot_in_front, word_in_front};
 use flow_graph::{Arc, End};
 use max_flow::Half;
-
-/// The byte at an index, or 0.
-fn byte_at(bytes: &[u8], index: usize) -> u8
-    ensures { result ≡ slice_index bytes.now index }
-{
-    match bytes.get(index) {
-        Some(byte) => *byte,
-        None => 0,
-    }
-}
-
-/// What stands after the first bytes, so many of them.
-fn skip(bytes: &[u8], count: usize) -> &[u8]
-    ensures { result.now ≡ drop count bytes.now }
-{
-    &bytes[count.min(bytes.len())..]
-}
 
 /// A number as one of 16 bits, or 0.
 fn short(number: u64) -> u16

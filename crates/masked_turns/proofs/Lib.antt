@@ -3,8 +3,7 @@ pub mod OutsideMasks
 pub mod LooksAgree
 pub mod StepEnds
 pub mod CutNumbers
-pub mod RunsBegin
 pub mod GuestStates
-pub mod MovesAgree
-pub mod RegionsKeepStanding
+pub mod PassedOutputs
+pub mod PassedValues
 pub mod NarrowMasks

@@ -86,7 +86,7 @@ found_stands test (first ∷ regions) region e = elim (cases_Bool (test first)) 
       or_right (first.id == region.id) (is_listed (ids_of regions) region.id) (found_stands test regions region later)
 ]
 
-found_rules : (test : Region → Bool) (regions : List Region) (region : Region) → list_all is_region regions ≡ true →
+pub found_rules : (test : Region → Bool) (regions : List Region) (region : Region) → list_all is_region regions ≡ true →
     find test regions ≡ Some region → is_region region ≡ true
 found_rules test [] region rules e = absurd (cc)
 found_rules test (first ∷ regions) region rules e =

@@ -5,8 +5,8 @@ ghost use Rattle.replay_machine.specs.Private.Trims.{trimmed, without_last as fr
 ghost use Rattle.replay_machine.specs.Visits.{SameAhead};
 
 use crate::cursors::Cursor;
-use cut_file::{Cut, CutPoint, Run, copy_runs};
-use flow_base::NoMemory;
+use cut_file::{Cut, CutPoint, Run};
+use flow_base::{List, NoMemory};
 use std::alloc::Global;
 
 fn without_last(runs: &[Run], mask: u32) -> &[Run]
@@ -29,14 +29,14 @@ fn trimmed_point(alloc: Global, cut_point: &CutPoint) -> Result<CutPoint, NoMemo
             }];
             Ok(CutPoint {
                 point: cut_point.point,
-                runs: copy_runs(alloc, without_last(cut_point.runs.as_slice(), only.mask))?,
-                rest: copy_runs(alloc, &once)?,
+                runs: List::from_slice(alloc, without_last(cut_point.runs.as_slice(), only.mask))?,
+                rest: List::from_slice(alloc, &once)?,
             })
         }
         rest => Ok(CutPoint {
             point: cut_point.point,
-            runs: copy_runs(alloc, cut_point.runs.as_slice())?,
-            rest: copy_runs(alloc, rest)?,
+            runs: List::from_slice(alloc, cut_point.runs.as_slice())?,
+            rest: List::from_slice(alloc, rest)?,
         }),
     }
 }

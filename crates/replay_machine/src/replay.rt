@@ -24,7 +24,7 @@ use crate::replays::Replaying;
 use crate::turns::ReplayTurn;
 use crate::visit_masks::VisitMasks;
 use crossing_bits::Bits;
-use cut_file::{Cut, copy_numbers};
+use cut_file::Cut;
 use elf32_loader::Image;
 use enclosure_regions::{Regions, copy_regions};
 use flow_base::{Bytes, List, NoMemory};
@@ -157,7 +157,7 @@ impl Replay {
         let bits = Bits::with_room(alloc, 0)?;
         let regions = copy_regions(alloc, regions)?;
         let marked = MarkedRegions::new(alloc, regions)?;
-        let skip = copy_numbers(alloc, &cut.skip)?;
+        let skip = List::from_slice(alloc, cut.skip.as_slice())?;
         let side = Replaying {
             masks,
             bits,

@@ -29,8 +29,8 @@ use Rattle.acceptance_law.proofs.RunFacts.{SameSetting, kind_setting}
 use Rattle.acceptance_law.proofs.StepsKeepStanding.{state_of}
 use Rattle.masked_turns.specs.declared.uses.LeftBits.{LeftBits}
 use Rattle.masked_turns.specs.declared.uses.SecretLook.{SecretLook}
-use Rattle.masked_turns.proofs.OutsideMasks.{AreSmall}
-use Rattle.masked_turns.proofs.RunsBegin.{begins_beside}
+use Rattle.acceptance_law.proofs.RunsBegin.{begins_beside}
+use Rattle.masked_turns.proofs.OutsideMasks.{AreSmall, everything}
 use Rattle.taint_check.specs.Cleared.{AnswersUnless, AreRunAnswers, Cleared, MaskedRun, cutting_at, is_hidden, kind_at}
 use Rattle.taint_check.specs.Reasons.{left_unless, look_unless, unclear_of}
 use Rattle.taint_check.proofs.FoundRuns.{AreFine}
@@ -98,7 +98,7 @@ module _ (table : ℕ) (task : Task) (limits : Limits) (secret other : List ℕ)
   begins = record {
     copy = the_start.state.store;
     comes = refl;
-    stands = begins_beside task.enclosures.skip regions the_start.state is refl nowhere;
+    stands = begins_beside everything task.enclosures.skip regions the_start.state is refl nowhere;
   }
 
   -- ---- one turn

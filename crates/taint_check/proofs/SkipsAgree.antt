@@ -27,8 +27,8 @@ use Rattle.acceptance_law.specs.Proper.{AreBytes, IsProperGuest}
 use Rattle.acceptance_law.specs.ProperLaws.{ProperTurnsLaw}
 use Rattle.acceptance_law.proofs.Entering.{SameStarts, outside_same, entry_end}
 use Rattle.acceptance_law.proofs.QuietInsideRegions.{step_quiet}
-use Rattle.acceptance_law.proofs.RegionTurns.{ranges_unbroken}
-use Rattle.acceptance_law.proofs.SkippedTurns.{Skips, entered_break, entered_mode, entered_to, region_of_entered, same_control}
+use Rattle.acceptance_law.proofs.RegionTurns.{entered_break, entered_region, ranges_unbroken}
+use Rattle.acceptance_law.proofs.SkippedTurns.{Skips, entered_mode, entered_to, same_control}
 use Rattle.acceptance_law.proofs.SkippedTurns.{same_inside_later, same_inside_refl}
 use Rattle.acceptance_law.proofs.SkipsKeepRelation.{SkippedTo}
 use Rattle.acceptance_law.proofs.StepsKeepStanding.{state_of, placed, HasRules}
@@ -86,7 +86,7 @@ module _ (skip : List ℕ) (regions : List Region) (masks : Masks) (setting : Se
         beside = at.beside;
         counts = λ point never. refl;
         skipped = skipped;
-        numbered = subst (λ r. region_numbered regions r ≡ Some region) (sym (region_of_entered region.id control))
+        numbered = subst (λ r. region_numbered regions r ≡ Some region) (sym (entered_region region.id control))
             numbered;
         to = to;
         starts = starts;

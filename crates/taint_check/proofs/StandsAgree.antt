@@ -27,8 +27,8 @@ use Rattle.acceptance_law.specs.ProperLaws.{ProperTurnsLaw}
 use Rattle.acceptance_law.specs.Sides.{NamedSide}
 use Rattle.acceptance_law.proofs.Entering.{SameStarts, outside_same, entry_end, entry_passed, entry_crossing, entry_replayed}
 use Rattle.acceptance_law.proofs.Entering.{looks_same}
-use Rattle.acceptance_law.proofs.RegionTurns.{leave_end, left_region, left_break}
-use Rattle.acceptance_law.proofs.RegionTurns.{ranges_unbroken}
+use Rattle.acceptance_law.proofs.RegionTurns.{entered_break, entered_region, leave_end, ranges_unbroken}
+use Rattle.acceptance_law.proofs.RegionTurns.{stands_entered, stands_left}
 use Rattle.acceptance_law.proofs.StepsKeepStanding.{state_of, placed, Stands, HasRules, kept_moved, proper_turn}
 use Rattle.acceptance_law.proofs.WritesKeepRelation.{Beside}
 use Rattle.masked_turns.specs.Clearing.{Cutting, cleared_in}
@@ -36,7 +36,6 @@ use Rattle.masked_turns.specs.Looking.{looked_in}
 use Rattle.masked_turns.proofs.LooksAgree.{look_same, look_none}
 use Rattle.masked_turns.proofs.GuestStates.{guest_within}
 use Rattle.masked_turns.proofs.OutsideMasks.{AreSmall, everything}
-use Rattle.masked_turns.proofs.RegionsKeepStanding.{stands_entered, stands_left}
 use Rattle.masked_turns.proofs.StepEnds.{step_ends, cleared_kept}
 use Rattle.taint_check.proofs.LeavesAgree.{leave_kept}
 use Rattle.taint_check.proofs.TurnsAgree.{IsClear, KeepsAgreed, turn_kept}
@@ -183,8 +182,8 @@ module _ (skip : List ℕ) (regions : List Region) (masks : Masks) (setting : Se
       answers in
       let passed_here = entry_passed setting secret real none_held region control in
       let new = entered region.id control in
-      let stands = stands_entered skip regions setting.base control labels real copy past region unskipped numbered starts
-      none at in record {
+      let stands = stands_entered everything skip regions setting.base control labels real copy past past region unskipped
+      numbered starts none at in record {
         store = saved copy;
         uses =
             ap (λ k. feed (replay_inside (kind_outside_range k (state_of setting other control copy)) enclosures masks
@@ -222,9 +221,10 @@ module _ (skip : List ℕ) (regions : List Region) (masks : Masks) (setting : Se
       (passed past (walked setting secret (leave region real.kept control) real none_held))
   left_stands skipped control labels answers real copy past region copied outside small_break words kept =
       let end = leave_end setting secret region real.kept control real in
-      let region_is = ap (λ (c : Control). c.region) end.control_is ∙ left_region control in
-      let break_is = ap (λ (c : Control). c.current_break) end.control_is ∙ left_break control in
-      stands_left skip regions setting.base _ _ _ kept.store _ kept.beside outside region_is
+      let region_is = ap (λ (c : Control). c.region) end.control_is ∙ entered_region 0 control in
+      let break_is = ap (λ (c : Control). c.current_break) end.control_is ∙ entered_break 0 control in
+      stands_left everything skip regions setting.base _ _ _ kept.store _ _ kept.beside (λ point never. refl) outside
+      region_is
       (subst (λ b. b < 2 ^ 32) (sym break_is) small_break)
       (λ r. subst (λ xs. slice_index xs r ≤ 4294967295) (sym end.kept_is) (words r))
 

@@ -1,7 +1,7 @@
 -- One turn of a run of which masks are kept, and of the replay that is fed its crossing bits: the law of one passing, and
 -- that a whole turn of an instruction keeps that the two agree outside the masks.
 use Rattle.std.proofs.Common.{◌≡◌, ℕ, ◌^◌, ◌<◌, ◌≤◌, List, [], ◌∷◌}
-use Rattle.std.proofs.Common.{Option, Some, None, refl, sym, ap, subst, ◌∙◌, arith}
+use Rattle.std.proofs.Common.{Option, Some, None, refl, sym, ap, ◌∙◌, arith}
 use Rattle.std.proofs.lemmas.Nat.{and_le_l}
 use Rattle.flow_base.specs.declared.points.Point.{Point}
 use Rattle.flow_base.specs.Points.{width_of, nowhere}
@@ -23,19 +23,20 @@ use Rattle.run_labels.specs.Masks.{masks_of, work_mask}
 use Rattle.run_labels.specs.TurnLabels.{TurnLabels, at_start, put_label}
 use Rattle.shadow_masks.specs.Pages.{label_of}
 use Rattle.transfer_rules.specs.Table1.{flipped}
-use Rattle.acceptance_law.specs.Proper.{AreBytes, IsPassing, FitsPlace, IsProper, place_limit}
-use Rattle.acceptance_law.proofs.AgreeOutsideMask.{agree_zero, patched_uncrossed}
+use Rattle.acceptance_law.specs.Proper.{AreBytes, IsPassing, FitsPlace, IsProper}
+use Rattle.acceptance_law.proofs.AgreeOutsideMask.{patched_uncrossed}
 use Rattle.acceptance_law.proofs.Passings.{made_agrees, made_fits, mask_fits, patched_slot, slot_word}
-use Rattle.acceptance_law.proofs.Turns.{feed_bits, label_of_limit, seen_word}
-use Rattle.acceptance_law.proofs.WritesKeepRelation.{Beside, fresh_beside, put_beside, put_kept}
+use Rattle.acceptance_law.proofs.Turns.{feed_bits, seen_word}
+use Rattle.acceptance_law.proofs.TurnsKeepRelation.{moved_beside}
+use Rattle.acceptance_law.proofs.WritesKeepRelation.{Beside, fresh_beside, put_kept}
 use Rattle.masked_turns.specs.declared.uses.LeftBits.{LeftBits}
 use Rattle.masked_turns.specs.Answers.{EachCleared}
 use Rattle.masked_turns.specs.Clearing.{Cutting, cleared_in, uncrossed}
 use Rattle.masked_turns.specs.Deciding.{first_left, left_at, left_in}
 use Rattle.masked_turns.specs.Looking.{looked_in}
 use Rattle.masked_turns.proofs.LooksAgree.{look_same, look_none}
-use Rattle.masked_turns.proofs.MovesAgree.{moved_beside}
-use Rattle.masked_turns.proofs.OutsideMasks.{AreSmall, close_of, decided_none, everything}
+use Rattle.masked_turns.proofs.OutsideMasks.{AreSmall, everything}
+use Rattle.masked_turns.proofs.PassedValues.{decided_equal as values_equal, put_agreed}
 
 -- what is known of a turn of which masks are kept, after these points
 pub record IsClear (number : ℕ) (cutting : Cutting) (past : List Point) (labels : TurnLabels) (answers : List ℕ)
@@ -123,22 +124,16 @@ module _ (cutting : Cutting) (small : AreSmall cutting.masks) (setting : Setting
 
     -- what is decided is equal in the two runs
     pub decided_equal : left_at Decide point mask_left ≡ None → real_value ≡ passed_value
-    decided_equal none =
-        agree_zero real_value passed_value
-        (subst (λ m. Agree m real_value passed_value) (decided_none point mask_left none) left_agrees)
+    decided_equal none = values_equal point mask_left real_value passed_value left_agrees none
 
     -- the value that has gone on stands beside the real one
     pub put_passed : (place : Place) → FitsPlace setting.base point place →
         Beside everything setting.base (put_label place (label_of mask_left nowhere) labels)
         (put setting.base place real_value real) (hold place real_value held)
         (put setting.base place passed_value copy) (hold place passed_value taken)
-    put_passed place put =
-        let width = put.1 in
-        let a = real_fits in let b = passed_fits in let m = left_fits in
-        let mask : mask_left ≤ place_limit place = omega (arith, m, width) in
-        put_beside everything setting.base place (label_of mask_left nowhere) real_value passed_value labels real held copy
-        taken put.0 (close_of mask_left real_value passed_value left_agrees) (omega (arith, a, width))
-        (omega (arith, b, width)) (label_of_limit mask_left nowhere (place_limit place) mask) beside
+    put_passed place fits =
+        put_agreed setting.base labels real held copy taken beside point place fits mask_left real_value passed_value
+        left_fits real_fits passed_fits left_agrees
 
   -- ---- one turn
 
@@ -203,7 +198,8 @@ module _ (cutting : Cutting) (small : AreSmall cutting.masks) (setting : Setting
         kept = rest.kept;
       }
   turn_kept (Moves place shape source turn) labels answers real held copy taken past proper beside clear =
-      let here = moved_beside setting secret other labels real held copy taken beside place shape source proper.0 in
+      let here = moved_beside everything setting secret other labels real held copy taken beside place shape source
+      proper.0 in
       let rest = turn_kept turn _ answers _ _ _ _ past proper.1 here
       (record { sound = clear.sound; looks = clear.looks; left = clear.left }) in record {
         store = rest.store;

@@ -1,4 +1,4 @@
-use Rattle.std.proofs.Common.{IsTrue, List, ℕ, subst, sym}
+use Rattle.std.proofs.Common.{◌∙◌, IsTrue, List, ℕ, subst, sym}
 use Rattle.cut_file.specs.declared.points.CutPoint.{CutPoint}
 use Rattle.cut_file.specs.Cuts.{are_points_of, are_regions}
 use Rattle.cut_file.proofs.Following.{points_migrated}
@@ -11,4 +11,5 @@ invariant_of-result-clause-crosses c =
 
 pub invariant_of-result-clause-skips : goal.invariant_of-result-clause-skips
 invariant_of-result-clause-skips c =
-    subst (λ (l : List ℕ). IsTrue (are_regions l)) (sym c.in_ok-skip.ensures) c.args.cut.now.skips
+    subst (λ (l : List ℕ). IsTrue (are_regions l)) (sym (c.in_ok-skip.ensures ∙ c.as_slice.ensures))
+    c.args.cut.now.skips

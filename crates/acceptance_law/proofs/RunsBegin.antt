@@ -1,4 +1,4 @@
--- At its start a run stands beside itself, with no masks.
+-- At its start a run stands beside itself, with no labels.
 use Rattle.std.proofs.Common.{◌≡◌, ℕ, ◌-◌, ◌≤◌, false, List, [], Some, None, refl, sym, subst, arith}
 use Rattle.enclosure_regions.specs.declared.region_parts.Region.{Region}
 use Rattle.rv32im_machine.specs.declared.language.Place.{Place}
@@ -8,19 +8,19 @@ use Rattle.rv32im_machine.specs.State.{State}
 use Rattle.region_machine.specs.Enclosures.{region_numbered}
 use Rattle.shadow_masks.specs.Writes.{default_map}
 use Rattle.run_labels.specs.TurnLabels.{at_start, label_at}
+use Rattle.acceptance_law.specs.Sides.{NamedSide}
 use Rattle.acceptance_law.specs.Proper.{IsProperGuest, IsProperPlace, place_limit}
 use Rattle.acceptance_law.proofs.StepsKeepStanding.{Stands}
 use Rattle.acceptance_law.proofs.WritesKeepRelation.{Close, close_refl}
-use Rattle.masked_turns.proofs.OutsideMasks.{everything}
 use Rattle.flow_base.specs.Listed.{is_listed}
 
-module _ (skip : List ℕ) (regions : List Region) (state : State) (is : IsProperGuest state)
+module _ (side : NamedSide) (skip : List ℕ) (regions : List Region) (state : State) (is : IsProperGuest state)
     (outside : state.control.region ≡ 0) (nowhere : is_listed skip 0 ≡ false) where
   places : (place : Place) → IsProperPlace state.setting.base place →
-      Close everything (label_at (at_start default_map) place) (at_place state.setting.base state.store none_held place)
+      Close side (label_at (at_start default_map) place) (at_place state.setting.base state.store none_held place)
       (at_place state.setting.base state.store none_held place)
   places place ip =
-      close_refl everything (label_at (at_start default_map) place)
+      close_refl side (label_at (at_start default_map) place)
       (at_place state.setting.base state.store none_held place)
 
   limits : (place : Place) → at_place state.setting.base state.store none_held place ≤ place_limit place
@@ -36,7 +36,7 @@ module _ (skip : List ℕ) (regions : List Region) (state : State) (is : IsPrope
   label_limits Second = omega arith
 
   pub begins_beside :
-      Stands everything skip regions state.setting.base state.control default_map state.store state.store [] []
+      Stands side skip regions state.setting.base state.control default_map state.store state.store [] []
   begins_beside = record {
     beside = record {
       places = places;
