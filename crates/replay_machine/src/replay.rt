@@ -1,7 +1,6 @@
 ghost use Rattle.std.specs.Prelude.{◌≡◌, ◌≢◌, ℕ, ◌+◌, ◌<◌, ◌++◌, length, List as Seq, IfOk, IsTrue, None};
 ghost use Rattle.flow_base.specs.declared.points.Point.{Point as ThePoint};
 ghost use Rattle.elf32_loader.specs.Images.{image_picture};
-ghost use Rattle.cut_file.specs.declared.points.CutPoint.{CutPoint as TheCutPoint};
 ghost use Rattle.cut_file.specs.Masks.{MaskAt};
 ghost use Rattle.crossing_bits.specs.Askers.{feed};
 ghost use Rattle.crossing_bits.specs.Streams.{left_of};
@@ -11,7 +10,7 @@ ghost use Rattle.replay_machine.specs.ReplayTurns.{replay_walk};
 ghost use Rattle.replay_machine.specs.ReplayTurns.{range_outside};
 ghost use Rattle.replay_machine.specs.Runs.{ReplayPlace, Masks, replayed, replay_turn};
 ghost use Rattle.replay_machine.specs.Starts.{replay_guest};
-ghost use Rattle.replay_machine.specs.Visits.{IsAhead, SameAhead};
+ghost use Rattle.replay_machine.specs.Visits.{IsAhead};
 ghost use Rattle.replay_machine.specs.Private.Sides.{Side, Comes};
 ghost use Rattle.region_machine.specs.Enclosures.{kind_of, Steps};
 ghost use Rattle.region_machine.specs.Runs.{has_exited};
@@ -129,8 +128,7 @@ impl<'c> Replay<'c> {
         cut: &Cut,
         table: &'c CutTable,
     ) -> Result<Replay<'c>, NoMemory>
-        ensures stands { IfOk result (λ replay. (points : Seq TheCutPoint) → SameAhead table.now points →
-            Stands replay (MaskAt points)
+        ensures stands { IfOk result (λ replay. Stands replay (MaskAt table.now)
             (replay_guest (image_picture image.now) public.now cut.now.secret_len)) }
         ensures enclosures { IfOk result (λ replay. replay.enclosures ≡
             (record { regions = regions.now.items; skip = cut.now.skip })) }
@@ -151,8 +149,7 @@ impl<'c> Replay<'c> {
         cut: &Cut,
         table: &'c CutTable,
     ) -> Result<Replay<'c>, NoMemory>
-        ensures stands { IfOk result (λ replay. (points : Seq TheCutPoint) → SameAhead table.now points →
-            Stands replay (MaskAt points)
+        ensures stands { IfOk result (λ replay. Stands replay (MaskAt table.now)
             (replay_guest (image_picture image.now) public.now cut.now.secret_len)) }
         ensures enclosures { IfOk result (λ replay. replay.enclosures ≡
             (record { regions = regions.now.items; skip = cut.now.skip })) }
