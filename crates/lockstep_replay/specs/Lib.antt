@@ -12,5 +12,6 @@ pub mod Sides
 pub mod Ends
 pub mod Beginnings
 pub mod Checks
+pub mod LentTasks
 pub mod VerdictTexts
 pub mod Private

@@ -4,6 +4,7 @@
 
 mod differences;
 mod laws;
+mod lent_tasks;
 mod lockstep;
 mod marks;
 mod memories;
@@ -14,6 +15,7 @@ mod two_runs;
 mod verdicts;
 
 pub use laws::{accepted_runs_are_bounded, verdicts_are_acceptance};
+pub use lent_tasks::LentTask;
 pub use lockstep::Lockstep;
 pub use memories::Memories;
 pub use tallies::Tallying;

@@ -1,22 +1,18 @@
 ghost use Rattle.std.specs.Prelude.{◌≡◌, ℕ, ◌<◌, ◌^◌, List, [], length, false, IfOk, IsTrue};
-ghost use Rattle.elf32_loader.specs.Images.{image_picture};
-ghost use Rattle.cut_file.specs.Pictures.{cut_picture};
 ghost use Rattle.rv32im_machine.specs.declared.stepping.Stepped.TheVariants.{Exited};
 ghost use Rattle.lockstep_replay.specs.Judgements.{judgement_of};
 ghost use Rattle.lockstep_replay.specs.Beginnings.{Begins};
-ghost use Rattle.lockstep_replay.specs.Tasks.{Task, Limits, task_of};
+ghost use Rattle.lockstep_replay.specs.Tasks.{Task, Limits};
 ghost use Rattle.lockstep_replay.specs.Private.Turning.{Ends, Keeps};
 ghost use Rattle.lockstep_replay.specs.Verdicts.{Accepts, First, judged_from};
 ghost use Rattle.region_machine.specs.Within.{may_leave};
 
+use crate::lent_tasks::LentTask;
 use crate::memories::Memories;
 use crate::rounds::{Round, make_round};
 use crate::tallies::Tallying;
 use crate::two_runs::{TwoRuns, memories_of};
 use crate::verdicts::{Verdict, Why};
-use cut_file::Cut;
-use elf32_loader::Image;
-use enclosure_regions::Regions;
 use flow_base::{Bytes, NoMemory, Output};
 use region_machine::OUTPUT_LIMIT;
 use replay_machine::Replay;
@@ -26,8 +22,8 @@ use std::alloc::Global;
 /// A check of one secret before its first turn: the real run on the secret beside the replay, with all the memory that
 /// the check takes.
 #[derive(Drop)]
-pub struct Lockstep {
-    pub(crate) runs: TwoRuns,
+pub struct Lockstep<'c> {
+    pub(crate) runs: TwoRuns<'c>,
     /// The length of the secrets that the cut is for, in bytes.
     pub(crate) wanted: u32,
     /// The length of the secret, in bytes.
@@ -43,32 +39,18 @@ pub struct Lockstep {
     ghost alike: { runs.real.control.output ≡ runs.replay.state.control.output },
 }
 
-impl Lockstep {
+impl<'c> Lockstep<'c> {
     ghost use Rattle.lockstep_replay.specs.Checks.{IsLockstepOf};
+    ghost use Rattle.lockstep_replay.specs.LentTasks.{limits_in, task_in};
 
-    /// A check of one secret of fewer than 2^32 bytes against a cut, for one program with its regions and one public
-    /// input, within a budget of fewer than 4,294,967,295 bits and a limit of turns.
+    /// A check of one secret of fewer than 2^32 bytes against the cut of a task, within its limits.
     /// `NoMemory` where there is not enough; [`Lockstep::run`] takes none.
-    pub fn new(
-        alloc: Global,
-        image: &Image,
-        public: &Bytes,
-        secret: &Bytes,
-        regions: &Regions,
-        cut: &Cut,
-        budget: u32,
-        turns: u32,
-    ) -> Result<Lockstep, NoMemory>
-        requires secret { length secret.now < 2 ^ 32 }
-        requires budget { budget < 4294967295 }
-        ensures { IfOk result (λ lockstep. IsLockstepOf lockstep
-            (task_of (image_picture image.now) public.now regions.now.items (cut_picture cut.now))
-            (record { budget = budget; turns = turns }) secret.now) }
+    pub fn new(alloc: Global, task: &LentTask<'c>, secret: &Bytes) -> Result<Lockstep<'c>, NoMemory>
+        requires { length secret.now < 2 ^ 32 }
+        ensures { IfOk result (λ lockstep. IsLockstepOf lockstep (task_in task.now) (limits_in task.now) secret.now) }
     {
         let memories = Memories::new(alloc)?;
-        Lockstep::new_in(
-            memories, alloc, image, public, secret, regions, cut, budget, turns,
-        )
+        Lockstep::new_in(memories, alloc, task, secret)
     }
 
     /// The same check in the guest memories that [`Lockstep::run_keeping`] has handed out: nothing of the check before
@@ -77,23 +59,17 @@ impl Lockstep {
     pub fn new_in(
         memories: Memories,
         alloc: Global,
-        image: &Image,
-        public: &Bytes,
+        task: &LentTask<'c>,
         secret: &Bytes,
-        regions: &Regions,
-        cut: &Cut,
-        budget: u32,
-        turns: u32,
-    ) -> Result<Lockstep, NoMemory>
-        requires secret { length secret.now < 2 ^ 32 }
-        requires budget { budget < 4294967295 }
-        ensures { IfOk result (λ lockstep. IsLockstepOf lockstep
-            (task_of (image_picture image.now) public.now regions.now.items (cut_picture cut.now))
-            (record { budget = budget; turns = turns }) secret.now) }
+    ) -> Result<Lockstep<'c>, NoMemory>
+        requires { length secret.now < 2 ^ 32 }
+        ensures { IfOk result (λ lockstep. IsLockstepOf lockstep (task_in task.now) (limits_in task.now) secret.now) }
     {
+        let (image, public, regions) = (task.image, task.public, task.regions);
+        let (cut, table) = (task.cut, task.table);
         let real = Machine::new_in(memories.real, alloc, image, public, secret, OUTPUT_LIMIT)?;
-        let tally = Tallying::new(alloc, cut, budget)?;
-        let replay = Replay::new_in(memories.replay, alloc, image, public, regions, cut)?;
+        let tally = Tallying::new(alloc, table, task.budget)?;
+        let replay = Replay::new_in(memories.replay, alloc, image, public, regions, cut, table)?;
         let got = secret.len() as u32;
         Ok(Lockstep {
             runs: TwoRuns {
@@ -103,13 +79,13 @@ impl Lockstep {
             },
             wanted: cut.secret_len,
             got,
-            turns,
+            turns: task.turns,
         })
     }
 
     /// The verdict on the secret: accepted, or the first condition that fails. It takes no memory.
     pub fn run(self) -> Verdict
-        ensures { (task : Task) (limits : Limits) (secret : List ℕ) → IsLockstepOf self task limits secret →
+        ensures { (task : Task) (limits : Limits) (secret : List ℕ) → IsLockstepOf self.entry task limits secret →
             judgement_of result ≡ First task limits secret }
     {
         let (verdict, _memories) = self.run_keeping();
@@ -118,7 +94,7 @@ impl Lockstep {
 
     /// The verdict on the secret, with the guest memories for the next check. It takes no memory.
     pub fn run_keeping(self) -> (Verdict, Memories)
-        ensures { (task : Task) (limits : Limits) (secret : List ℕ) → IsLockstepOf self task limits secret →
+        ensures { (task : Task) (limits : Limits) (secret : List ℕ) → IsLockstepOf self.entry task limits secret →
             judgement_of result.0 ≡ First task limits secret }
     {
         let Lockstep {
@@ -138,8 +114,13 @@ impl Lockstep {
 }
 
 /// The verdict of a real run that has exited with this status, with the guest memories.
-fn accepted(real: Machine, tally: Tallying, replay: Replay, status: u8) -> (Verdict, Memories)
-    ensures { judgement_of result.0 ≡ Accepts tally.bits.bits
+fn accepted(
+    real: Machine,
+    tally: Tallying<'_>,
+    replay: Replay<'_>,
+    status: u8,
+) -> (Verdict, Memories)
+    ensures { judgement_of result.0 ≡ Accepts tally.entry.bits.bits
         (record { bytes = real.control.output; status = status }) }
 {
     let Tallying { bits, .. } = tally;
@@ -167,10 +148,10 @@ fn exit_status(enclosed: bool, mode: Stepped) -> Option<u8>
 }
 
 /// The verdict of so many turns of the real run, with the guest memories.
-fn run_turns(runs: TwoRuns, turns: u32) -> (Verdict, Memories)
+fn run_turns(runs: TwoRuns<'_>, turns: u32) -> (Verdict, Memories)
     requires empty { runs.tally.bits.bits ≡ [] }
     requires keeps { Keeps runs.real runs.replay runs.tally.bits runs.tally.needed runs.tally.budget }
-    ensures { (task : Task) (limits : Limits) (secret : List ℕ) → Begins runs task limits secret →
+    ensures { (task : Task) (limits : Limits) (secret : List ℕ) → Begins runs.entry task limits secret →
         turns ≡ limits.turns → judgement_of result.0 ≡ judged_from task limits secret turns 0 }
 {
     let TwoRuns {

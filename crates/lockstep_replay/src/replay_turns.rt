@@ -48,7 +48,7 @@ fn compared_output(real: &Machine, output: &[u8], mode: Stepped) -> Option<Why>
 }
 
 /// Where the marks differ, or else the outputs, of a real run and a replay that ends its turn in this mode.
-fn compared(real: &Machine, needed: u32, replay: &Replay, mode: Stepped) -> Option<Why>
+fn compared(real: &Machine, needed: u32, replay: &Replay<'_>, mode: Stepped) -> Option<Why>
     ensures { result ≡ why_compared real.now needed replay.now mode }
 {
     let mark = mark_at(real, needed);
@@ -66,7 +66,7 @@ fn compared(real: &Machine, needed: u32, replay: &Replay, mode: Stepped) -> Opti
 /// What fails of a replay that has made its turn beside a real run of which so many bits have crossed.
 #[cold]
 #[inline(never)]
-pub(crate) fn replay_reason(real: &Machine, needed: u32, replay: &Replay) -> Option<Why>
+pub(crate) fn replay_reason(real: &Machine, needed: u32, replay: &Replay<'_>) -> Option<Why>
     ensures { result ≡ why_beside real.now needed replay.now }
 {
     match replay.answer() {
@@ -99,7 +99,7 @@ fn is_same_output(real: &[u8], replay: &[u8], from: usize) -> bool
 
 /// Whether the marks and the outputs, whose first `from` bytes are equal, of two runs that have not exited are equal.
 #[inline(always)]
-fn is_in_step(real: &Machine, needed: u32, replay: &Replay, from: usize) -> bool
+fn is_in_step(real: &Machine, needed: u32, replay: &Replay<'_>, from: usize) -> bool
     requires real { from ≤ length real.now.control.output }
     requires replay { from ≤ length replay.now.state.control.output }
     requires same { take from real.now.control.output ≡ take from replay.now.state.control.output }
@@ -112,7 +112,13 @@ fn is_in_step(real: &Machine, needed: u32, replay: &Replay, from: usize) -> bool
 /// Whether a quick look tells that nothing fails of a replay that has answered this, where the first `from` bytes of the
 /// outputs are equal if it runs on.
 #[inline(always)]
-fn is_fine(real: &Machine, needed: u32, replay: &Replay, answer: ReplayTurn, from: usize) -> bool
+fn is_fine(
+    real: &Machine,
+    needed: u32,
+    replay: &Replay<'_>,
+    answer: ReplayTurn,
+    from: usize,
+) -> bool
     requires real { from ≤ length real.now.control.output }
     requires replay { answer ≡ ReplayRan → from ≤ length replay.now.state.control.output }
     requires same { answer ≡ ReplayRan →
@@ -132,7 +138,12 @@ fn is_fine(real: &Machine, needed: u32, replay: &Replay, answer: ReplayTurn, fro
 /// look tells that nothing fails, and else [`replay_reason`] says what does. Before the turn the real run's output
 /// begins with the replay's, and `needed` is the number of bits that the replay has used with those that are left.
 #[inline(always)]
-pub(crate) fn keeps_up(real: &Machine, replay: &mut Replay, bits: &mut Bits, needed: u32) -> bool
+pub(crate) fn keeps_up(
+    real: &Machine,
+    replay: &mut Replay<'_>,
+    bits: &mut Bits,
+    needed: u32,
+) -> bool
     requires begins { (more : List ℕ) × (real.now.control.output ≡ replay.old.state.control.output ++ more) }
     requires wanted { replay.old.missing ≡ 0 }
     requires used { replay.old.taken + length (left_of bits.old) ≡ needed }

@@ -60,7 +60,7 @@ fn real_reason(broken: Option<Break>, mode: Stepped, budget: u32, needed: u32) -
 /// One turn of the real run with these regions, of which those with these numbers are skipped; its bits are tallied.
 fn real_turn(
     real: &mut Machine,
-    tally: &mut Tallying,
+    tally: &mut Tallying<'_>,
     marked: &MarkedRegions,
     skip: &[u16],
 ) -> RealTurn
@@ -76,7 +76,7 @@ fn real_turn(
 
 /// One turn of the real run, and unless it is the entry of a skipped region or inside it one turn of the replay, which
 /// is lent the bits that crossed since its last turn.
-fn make_region_round(real: &mut Machine, tally: &mut Tallying, replay: &mut Replay) -> Round
+fn make_region_round(real: &mut Machine, tally: &mut Tallying<'_>, replay: &mut Replay<'_>) -> Round
     requires { Keeps real.old replay.old tally.old.bits tally.old.needed tally.old.budget }
     ensures { Rounds replay.old.enclosures real.old tally.old replay.old real.new tally.new replay.new result }
 {
@@ -109,8 +109,8 @@ fn make_region_round(real: &mut Machine, tally: &mut Tallying, replay: &mut Repl
 #[inline(never)]
 fn put_region_round(
     real: &mut Machine,
-    tally: &mut Tallying,
-    replay: &mut Replay,
+    tally: &mut Tallying<'_>,
+    replay: &mut Replay<'_>,
     round: &mut Round,
 )
     requires { Keeps real.old replay.old tally.old.bits tally.old.needed tally.old.budget }
@@ -123,7 +123,7 @@ fn put_region_round(
 
 /// One step of the real run outside of these regions; its bits are tallied.
 #[inline(always)]
-fn real_step(real: &mut Machine, tally: &mut Tallying, _marked: &MarkedRegions)
+fn real_step(real: &mut Machine, tally: &mut Tallying<'_>, _marked: &MarkedRegions)
     requires { kind_of _marked.now.regions.items real.old.control ≡ Steps None }
     ensures { (skip : Seq ℕ) → MakesReal (record { regions = _marked.now.regions.items; skip = skip })
         (kind_of _marked.now.regions.items real.old.control) real.old tally.old real.new tally.new
@@ -138,7 +138,7 @@ fn real_step(real: &mut Machine, tally: &mut Tallying, _marked: &MarkedRegions)
 /// One step of each run outside of regions, the replay being lent the bits that crossed since its last turn; whether a
 /// quick look tells that nothing fails, and else [`put_reason`] says what does.
 #[inline(always)]
-fn make_step(real: &mut Machine, tally: &mut Tallying, replay: &mut Replay) -> bool
+fn make_step(real: &mut Machine, tally: &mut Tallying<'_>, replay: &mut Replay<'_>) -> bool
     requires keeps { Keeps real.old replay.old tally.old.bits tally.old.needed tally.old.budget }
     requires outside { kind_of replay.old.enclosures.regions real.old.control ≡ Steps None }
     ensures rounds { Rounds replay.old.enclosures real.old tally.old replay.old real.new tally.new replay.new
@@ -156,7 +156,7 @@ fn make_step(real: &mut Machine, tally: &mut Tallying, replay: &mut Replay) -> b
 /// What fails after a step of each run outside of regions is put into a round.
 #[cold]
 #[inline(never)]
-fn put_reason(real: &Machine, tally: &Tallying, replay: &Replay, round: &mut Round)
+fn put_reason(real: &Machine, tally: &Tallying<'_>, replay: &Replay<'_>, round: &mut Round)
     ensures { round.new ≡ record { enclosed = round.old.enclosed; why = why_standing real.now tally.now replay.now } }
 {
     round.why = match mode_reason(real.mode(), tally.budget, tally.needed) {
@@ -170,8 +170,8 @@ fn put_reason(real: &Machine, tally: &Tallying, replay: &Replay, round: &mut Rou
 #[inline(always)]
 pub(crate) fn make_round(
     real: &mut Machine,
-    tally: &mut Tallying,
-    replay: &mut Replay,
+    tally: &mut Tallying<'_>,
+    replay: &mut Replay<'_>,
     round: &mut Round,
 )
     requires keeps { Keeps real.old replay.old tally.old.bits tally.old.needed tally.old.budget }

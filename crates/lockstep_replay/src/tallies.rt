@@ -8,10 +8,9 @@ ghost use Rattle.lockstep_replay.specs.Verdicts.{counted_bits};
 ghost use Rattle.lockstep_replay.specs.Tapes.{Tally, Tallies};
 
 use crossing_bits::{Bits, bit_count};
-use cut_file::Cut;
 use flow_base::{NoMemory, Point};
 use region_machine::Observer;
-use replay_machine::VisitMasks;
+use replay_machine::{CutTable, LentVisits};
 use rv32im_machine::{Passer, Passing, Place, Seen, Shape, Source};
 use std::alloc::Global;
 use std::convert::Infallible;
@@ -19,9 +18,9 @@ use std::convert::Infallible;
 /// What crosses in a real run: each value goes on as it is, and its bits under the mask of its visit are counted, and are
 /// kept as long as the budget holds.
 #[derive(Drop)]
-pub struct Tallying {
+pub struct Tallying<'c> {
     /// The masks of the visits that are ahead.
-    pub masks: VisitMasks,
+    pub masks: LentVisits<'c>,
     /// The bits that have crossed, as long as the budget holds.
     pub bits: Bits,
     /// How many bits have crossed, or 4,294,967,295 where there are more.
@@ -70,22 +69,22 @@ fn push_fitting(bits: &mut Bits, value: u32, mask: u32)
     let _ = bits.push_masked(value, mask);
 }
 
-impl Tallying {
+impl<'c> Tallying<'c> {
     ghost use Rattle.std.specs.Prelude.{[], IfOk};
     ghost use Rattle.cut_file.specs.Masks.{MaskAt};
     ghost use Rattle.lockstep_replay.specs.Sides.{tally_of};
 
-    /// Nothing has crossed yet, at a cut, of which up to a budget of fewer than 4,294,967,295 bits is kept.
+    /// Nothing has crossed yet, at the masks of a table, of which up to a budget of fewer than 4,294,967,295 bits is kept.
     /// `NoMemory` where there is not enough; no later call takes memory.
-    pub fn new(alloc: Global, cut: &Cut, budget: u32) -> Result<Tallying, NoMemory>
+    pub fn new(alloc: Global, table: &'c CutTable, budget: u32) -> Result<Tallying<'c>, NoMemory>
         requires { budget < 4294967295 }
-        ensures ahead { IfOk result (λ tally. IsAhead tally.masks (MaskAt cut.now.points) []) }
+        ensures ahead { IfOk result (λ tally. IsAhead tally.masks (MaskAt table.now) []) }
         ensures empty { IfOk result (λ tally. tally.bits.bits ≡ []) }
         ensures untaken { IfOk result (λ tally. tally.bits.taken ≡ 0) }
         ensures uncounted { IfOk result (λ tally. tally.needed ≡ 0) }
         ensures budget { IfOk result (λ tally. tally.budget ≡ budget) }
     {
-        let masks = VisitMasks::new(alloc, cut)?;
+        let masks = LentVisits::new(alloc, table)?;
         let bits = Bits::with_room(alloc, budget)?;
         Ok(Tallying {
             masks,
@@ -116,7 +115,7 @@ impl Tallying {
     }
 }
 
-impl Passer for Tallying {
+impl Passer for Tallying<'_> {
     ghost use Rattle.std.specs.Prelude.{◌≡◌, ℕ, List, None};
     ghost use Rattle.flow_base.specs.declared.points.Point.{Point as ThePoint};
     ghost use Rattle.rv32im_machine.specs.Folds.{real_end};
@@ -172,7 +171,7 @@ impl Passer for Tallying {
         crosses_Ended Never (tally_of side) masks past state side.word ahead };
 }
 
-impl Observer for Tallying {
+impl Observer for Tallying<'_> {
     ghost use Rattle.std.specs.Prelude.{[]};
     ghost use Rattle.replay_machine.proofs.MasksAhead.{ahead_self};
     ghost use Rattle.cut_file.specs.Masks.{MaskAt};

@@ -16,7 +16,6 @@ mod replaying;
 mod replays;
 mod search;
 mod turns;
-mod visit_masks;
 
 pub use cut_tables::CutTable;
 pub use entries::{outside_at_entry, skip_or_enter};
@@ -25,4 +24,3 @@ pub use marks::Mark;
 pub use outsides::Outside;
 pub use replay::Replay;
 pub use turns::ReplayTurn;
-pub use visit_masks::VisitMasks;

@@ -40,7 +40,7 @@ fn outside_at(machine: &Machine, turn: GuestTurn<'_>) -> Option<Outside>
 #[inline(always)]
 fn play_unlent(
     machine: &mut Machine,
-    side: &mut Replaying,
+    side: &mut Replaying<'_>,
     turn: GuestTurn<'_>,
     skip: &[u16],
     _bits: &Bits,
@@ -67,7 +67,7 @@ fn play_unlent(
 #[inline(never)]
 fn play_lent(
     machine: &mut Machine,
-    side: &mut Replaying,
+    side: &mut Replaying<'_>,
     turn: GuestTurn<'_>,
     skip: &[u16],
     bits: &mut Bits,
@@ -95,7 +95,7 @@ fn play_lent(
 #[inline(always)]
 fn play_turn(
     machine: &mut Machine,
-    side: &mut Replaying,
+    side: &mut Replaying<'_>,
     turn: GuestTurn<'_>,
     skip: &[u16],
     bits: &mut Bits,
@@ -126,7 +126,7 @@ fn play_turn(
 #[inline(always)]
 pub(crate) fn play(
     machine: &mut Machine,
-    side: &mut Replaying,
+    side: &mut Replaying<'_>,
     marked: &MarkedRegions,
     skip: &[u16],
     bits: &mut Bits,

@@ -17,12 +17,13 @@ ghost use Rattle.region_machine.specs.Runs.{has_exited};
 ghost use Rattle.replay_machine.specs.Standing.{Stands, Turned, end_answer, turn_answer, taken_after};
 ghost use Rattle.replay_machine.specs.Standing.{mark_of};
 
+use crate::cut_tables::CutTable;
+use crate::lent_visits::LentVisits;
 use crate::marks::Mark;
 use crate::outsides::Outside;
 use crate::playing::play;
 use crate::replays::Replaying;
 use crate::turns::ReplayTurn;
-use crate::visit_masks::VisitMasks;
 use crossing_bits::Bits;
 use cut_file::Cut;
 use elf32_loader::Image;
@@ -35,16 +36,16 @@ use std::marker::Model;
 
 /// A run of a program that never sees the secret: it starts on zeros, and the bits that cross are given to it.
 #[derive(Drop)]
-pub struct Replay {
+pub struct Replay<'c> {
     machine: Machine,
-    side: Replaying,
+    side: Replaying<'c>,
     taken: u64,
     marked: MarkedRegions,
     skip: List<u16>,
     outside: Option<Outside>,
 }
 
-impl Model for Replay {
+impl<'c> Model for Replay<'c> {
     ghost use Rattle.std.specs.Prelude.{◌≡◌, ◌<◌, ◌^◌, [], IsTrue};
     ghost use Rattle.replay_machine.specs.Standing.{Standing};
     ghost use Rattle.region_machine.specs.Within.{may_leave};
@@ -114,25 +115,27 @@ fn is_exit(mode: Stepped) -> bool
     }
 }
 
-impl Replay {
+impl<'c> Replay<'c> {
     /// The replay of a program on its public input, before its first turn. Of the secret it knows the length alone,
-    /// which the cut names; it skips the regions that the cut names, each at its entry. It keeps copies of what it
-    /// needs. `NoMemory` where there is not enough; no later call takes memory.
+    /// which the cut names; it skips the regions that the cut names, each at its entry. Its masks are those of the table,
+    /// whose points need not be the cut's. It keeps copies of all else that it needs. `NoMemory` where there is not
+    /// enough; no later call takes memory.
     pub fn new(
         alloc: Global,
         image: &Image,
         public: &Bytes,
         regions: &Regions,
         cut: &Cut,
-    ) -> Result<Replay, NoMemory>
-        ensures stands { IfOk result (λ replay. Stands replay (MaskAt cut.now.points)
+        table: &'c CutTable,
+    ) -> Result<Replay<'c>, NoMemory>
+        ensures stands { IfOk result (λ replay. Stands replay (MaskAt table.now)
             (replay_guest (image_picture image.now) public.now cut.now.secret_len)) }
         ensures enclosures { IfOk result (λ replay. replay.enclosures ≡
             (record { regions = regions.now.items; skip = cut.now.skip })) }
         ensures untaken { IfOk result (λ replay. replay.taken ≡ 0) }
     {
         let memory = GuestMemory::new(alloc)?;
-        Replay::new_in(memory, alloc, image, public, regions, cut)
+        Replay::new_in(memory, alloc, image, public, regions, cut, table)
     }
 
     /// The same replay before its first turn, in guest memory that may have been another's: what was there is gone.
@@ -144,14 +147,15 @@ impl Replay {
         public: &Bytes,
         regions: &Regions,
         cut: &Cut,
-    ) -> Result<Replay, NoMemory>
-        ensures stands { IfOk result (λ replay. Stands replay (MaskAt cut.now.points)
+        table: &'c CutTable,
+    ) -> Result<Replay<'c>, NoMemory>
+        ensures stands { IfOk result (λ replay. Stands replay (MaskAt table.now)
             (replay_guest (image_picture image.now) public.now cut.now.secret_len)) }
         ensures enclosures { IfOk result (λ replay. replay.enclosures ≡
             (record { regions = regions.now.items; skip = cut.now.skip })) }
         ensures untaken { IfOk result (λ replay. replay.taken ≡ 0) }
     {
-        let masks = VisitMasks::new(alloc, cut)?;
+        let masks = LentVisits::new(alloc, table)?;
         let zeros = zeroed(alloc, cut.secret_len as usize)?;
         let machine = Machine::new_in(memory, alloc, image, public, &zeros, OUTPUT_LIMIT)?;
         let bits = Bits::with_room(alloc, 0)?;
@@ -257,7 +261,7 @@ impl Replay {
 
     /// Guest memory, handed out for another guest to begin in. It takes no memory.
     pub fn into_memory(self) -> GuestMemory
-        ensures { result ≡ self.state.store.memory }
+        ensures { result ≡ self.entry.state.store.memory }
     {
         let (_output, memory) = self.machine.into_parts();
         memory

@@ -14,7 +14,7 @@ use crossing_bits::bit_count;
 use flow_base::Point;
 use rv32im_machine::{Passer, Passing, Place, Seen, Shape, Source};
 
-impl Replaying {
+impl Replaying<'_> {
     /// The value with the next bits in place of those under the mask of its point. Where too few are left, the number
     /// that is missing is kept, no bit is taken any more, and values go on as they are.
     #[inline(always)]
@@ -45,7 +45,7 @@ impl Replaying {
 }
 
 #[tactic(auto, unfolding(crate::specs::Runs::replayed))]
-impl Passer for Replaying {
+impl Passer for Replaying<'_> {
     ghost use Rattle.std.specs.Prelude.{◌≡◌, ℕ, List, None};
     ghost use Rattle.flow_base.specs.declared.points.Point.{Point as ThePoint};
     ghost use Rattle.crossing_bits.specs.Streams.{left_of};
