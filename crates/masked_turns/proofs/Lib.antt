@@ -1,4 +1,3 @@
-pub mod EqualCode
 pub mod OutsideMasks
 pub mod LooksAgree
 pub mod StepEnds

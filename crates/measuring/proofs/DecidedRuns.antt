@@ -8,43 +8,25 @@ use Rattle.flow_graph.specs.declared.events.Event.TheVariants.{Pass}
 use Rattle.region_machine.specs.Breaking.{Breaks}
 use Rattle.region_machine.specs.Enclosures.{kind_of}
 use Rattle.region_machine.specs.Runs.{real_turn}
-use Rattle.rv32im_machine.specs.declared.language.Operation.{Operation}
 use Rattle.rv32im_machine.specs.declared.language.Passing.{Passing}
-use Rattle.rv32im_machine.specs.declared.language.Work.{Work}
-use Rattle.rv32im_machine.specs.declared.language.Work.TheVariants.{Shaped, Computed}
 use Rattle.rv32im_machine.specs.Folds.{real_end}
 use Rattle.rv32im_machine.specs.Language.{Walk, Looked, Passed, Moved, Saved, Restored, Ended, first_of}
 use Rattle.shadow_masks.specs.Pages.{label_of}
 use Rattle.shadow_masks.specs.Writes.{LabelMap}
-use Rattle.transfer_rules.specs.declared.operands.Operands.{Operands}
-use Rattle.run_labels.specs.Answers.{HoldsOfAnswer, IsTableAnswer, mask_by, operands_of}
+use Rattle.run_labels.specs.Answers.{HoldsOfAnswer, IsTableAnswer}
 use Rattle.run_labels.specs.Traces.{traced, EachAnswer, labels_in, events_in, secret_look}
 use Rattle.run_labels.specs.Flowing.{flow_events}
 use Rattle.run_labels.specs.Looking.{look_fault}
-use Rattle.run_labels.specs.Masks.{aimed_mask, answered_mask, answers_after, mask_of, masks_of, moved_label}
-use Rattle.run_labels.specs.Masks.{work_mask}
+use Rattle.run_labels.specs.Masks.{aimed_mask, answers_after, mask_of, masks_of, moved_label}
 use Rattle.run_labels.specs.Runs.{LabelledRun, EachRunAnswer, broken_fault, enclosing, entered_number, next_run}
 use Rattle.run_labels.specs.Runs.{next_walk, run_after, stopped_fault}
 use Rattle.run_labels.specs.TurnLabels.{TurnLabels, aim_label, at_start, put_label, save_labels, restore_labels}
 use Rattle.measuring.specs.Deciding.{RunsAreDecided, RefusalsAreDecided}
 use Rattle.std.specs.Option.{option_or}
 use Rattle.transfer_rules.specs.Tables.{IsDeciding}
-use Rattle.transfer_rules.proofs.Deciding.{one_by_table}
+use Rattle.run_labels.proofs.TableAnswers.{same_work}
 
 -- ---- one passing
-
-same_answer : (table : ℕ) → IsDeciding table → (operation : Operation) (operands : Operands) (first second : ℕ) →
-    IsTableAnswer table operation operands first → IsTableAnswer table operation operands second → first ≡ second
-same_answer table deciding operation operands first second by also =
-    one_by_table table (mask_by operation operands) first second deciding by also
-
-same_work : (table : ℕ) → IsDeciding table → (work : Work) (masks : List ℕ) (first second : ℕ) →
-    HoldsOfAnswer (IsTableAnswer table) work masks first → HoldsOfAnswer (IsTableAnswer table) work masks second →
-    work_mask work masks first ≡ work_mask work masks second
-same_work table deciding (Shaped shape) masks first second by also = refl
-same_work table deciding (Computed operation a b) masks first second by also =
-    ap (answered_mask operation)
-    (same_answer table deciding operation (operands_of a b masks) first second by also)
 
 same_mask : (table : ℕ) → IsDeciding table → (labels : TurnLabels) (passing : Passing) (first second : ℕ) →
     HoldsOfAnswer (IsTableAnswer table) passing.work (masks_of labels passing.sources) first →

@@ -2,15 +2,11 @@
 -- masks after it, its first look and the first bits left at a decision are the same.
 use Rattle.std.proofs.Common.{◌≡◌, ℕ, List, ◌∷◌, Bool, true, false, refl, sym, ap, subst, ◌∙◌}
 use Rattle.flow_base.specs.declared.points.Point.{Point}
-use Rattle.rv32im_machine.specs.declared.language.Operation.{Operation}
 use Rattle.rv32im_machine.specs.declared.language.Passing.{Passing}
-use Rattle.rv32im_machine.specs.declared.language.Work.{Work}
-use Rattle.rv32im_machine.specs.declared.language.Work.TheVariants.{Shaped, Computed}
 use Rattle.rv32im_machine.specs.Language.{Walk, Looked, Passed, Moved, Saved, Restored, Ended, first_of}
 use Rattle.shadow_masks.specs.Pages.{label_of}
-use Rattle.transfer_rules.specs.declared.operands.Operands.{Operands}
-use Rattle.run_labels.specs.Answers.{HoldsOfAnswer, IsTableAnswer, mask_by, operands_of}
-use Rattle.run_labels.specs.Masks.{answered_mask, answers_after, masks_of, moved_label, work_mask}
+use Rattle.run_labels.specs.Answers.{HoldsOfAnswer, IsTableAnswer}
+use Rattle.run_labels.specs.Masks.{answers_after, masks_of, moved_label}
 use Rattle.run_labels.specs.Runs.{entered_number}
 use Rattle.run_labels.specs.TurnLabels.{TurnLabels, aim_label, at_start, put_label, save_labels, restore_labels}
 use Rattle.lockstep_replay.specs.Tasks.{Task}
@@ -22,22 +18,9 @@ use Rattle.taint_check.specs.Cleared.{AnswersUnless, MaskedRun, cutting_at, kind
 use Rattle.taint_check.specs.Reasons.{left_unless, look_unless}
 use Rattle.flow_base.specs.Points.{nowhere}
 use Rattle.transfer_rules.specs.Tables.{IsDeciding}
-use Rattle.transfer_rules.proofs.Deciding.{one_by_table}
+use Rattle.run_labels.proofs.TableAnswers.{same_work}
 
 -- ---- one passing
-
-same_answer : (table : ℕ) → IsDeciding table → (operation : Operation) (operands : Operands) (first second : ℕ) →
-    IsTableAnswer table operation operands first → IsTableAnswer table operation operands second → first ≡ second
-same_answer table deciding operation operands first second by also =
-    one_by_table table (mask_by operation operands) first second deciding by also
-
-same_work : (table : ℕ) → IsDeciding table → (work : Work) (masks : List ℕ) (first second : ℕ) →
-    HoldsOfAnswer (IsTableAnswer table) work masks first → HoldsOfAnswer (IsTableAnswer table) work masks second →
-    work_mask work masks first ≡ work_mask work masks second
-same_work table deciding (Shaped shape) masks first second by also = refl
-same_work table deciding (Computed operation a b) masks first second by also =
-    ap (answered_mask operation)
-    (same_answer table deciding operation (operands_of a b masks) first second by also)
 
 same_left : (table : ℕ) → IsDeciding table → (skipped : Bool) (crossing : ℕ) (labels : TurnLabels) (passing : Passing)
     (first second : ℕ) → HoldsOfAnswer (IsTableAnswer table) passing.work (masks_of labels passing.sources) first →

@@ -1,7 +1,6 @@
 pub mod AgainNotes
 pub mod Appending
 pub mod ByteMasks
-pub mod CleanCode
 pub mod Nodes
 pub mod PassingNotes
 pub mod Settings
