@@ -7,13 +7,10 @@ ghost use Rattle.many_runs.specs.Measures.{HaveLength, Setup as TheSetup, first_
 
 use crate::faults::ManyFault;
 use crate::uniting::unite;
-use elf32_loader::Image;
-use enclosure_regions::Regions;
 use flow_base::{Bytes, List, NoMemory};
-use measuring::{Recording, RunEnd, follow};
+use measuring::{LabelledMemory, Recording, RunEnd, Setup, follow_in};
 use run_labels::MeasureFault;
 use std::alloc::Global;
-use transfer_rules::RuleBook;
 
 /// So many recordings of runs are kept at once, unless their graph together exceeds a limit.
 const MOST_KEPT: usize = 8;
@@ -44,32 +41,32 @@ pub(crate) fn common_length(secrets: &[Bytes]) -> Result<u32, ManyFault>
     Ok(first)
 }
 
-/// The recording of the run on a secret.
+/// The recording of the run on a secret, in the memory of another one, and this for the next one.
 fn record_run(
+    memory: LabelledMemory,
     alloc: Global,
-    image: &Image,
-    public: &Bytes,
+    setup: &Setup<'_>,
     secret: &Bytes,
-    regions: &Regions,
-    book: &RuleBook,
-    turns: u32,
-) -> Result<Recording, MeasureFault>
+) -> Result<(Recording, LabelledMemory), MeasureFault>
     requires { length secret.now ≤ 65536 }
-    ensures ok { IfOk result (λ recording. IsFollowed
-        (setup_of book.now.table (image_picture image.now) public.now regions.now.items turns) secret.now recording) }
-    ensures err { IfErr result (λ fault. HasCause book.now.table regions.now.items (start_on
-        (setup_of book.now.table (image_picture image.now) public.now regions.now.items turns) secret.now) turns fault) }
+    ensures ok { IfOk result (λ made. IsFollowed (setup_of setup.now.book.now.table (image_picture setup.now.image.now)
+        setup.now.public.now setup.now.regions.now.items setup.now.turns) secret.now made.0) }
+    ensures err { IfErr result (λ fault. HasCause setup.now.book.now.table setup.now.regions.now.items
+        (start_on (setup_of setup.now.book.now.table (image_picture setup.now.image.now) setup.now.public.now
+        setup.now.regions.now.items setup.now.turns) secret.now) setup.now.turns fault) }
 {
-    match follow(alloc, image, public, secret, regions, book, turns) {
-        Ok(RunEnd::Exited(exit)) => {
+    let Ok((end, used)) = follow_in(memory, alloc, setup, secret) else {
+        return Err(MeasureFault::Memory);
+    };
+    match end {
+        RunEnd::Exited(exit) => {
             if exit.recording.collapse.is_full {
                 Err(MeasureFault::GraphLimit)
             } else {
-                Ok(exit.recording)
+                Ok((exit.recording, used))
             }
         }
-        Ok(RunEnd::Refused(fault)) => Err(fault),
-        Err(_) => Err(MeasureFault::Memory),
+        RunEnd::Refused(fault) => Err(fault),
     }
 }
 
@@ -101,28 +98,29 @@ fn gathered(alloc: Global, recordings: List<Recording>) -> Result<List<Recording
     Ok(one)
 }
 
-/// What the recordings of the runs on all secrets have together, in a few recordings.
+/// What the recordings of the runs on all secrets have together, in a few recordings. The runs are made one after another
+/// in the same memory.
 /// `Run` where one is not measured, for another reason than lack of memory.
 pub(crate) fn record_runs(
     alloc: Global,
-    image: &Image,
-    public: &Bytes,
+    setup: &Setup<'_>,
     secrets: &[Bytes],
-    regions: &Regions,
-    book: &RuleBook,
-    turns: u32,
 ) -> Result<List<Recording>, ManyFault>
     requires few { length secrets.now ≤ 64 }
     requires short { list_all is_short_secret secrets.now ≡ true }
-    ensures ok { IfOk result (λ recordings. AreFollowed
-        (setup_of book.now.table (image_picture image.now) public.now regions.now.items turns) secrets.now recordings) }
-    ensures err { IfErr result (λ fault. IsRunFault
-        (setup_of book.now.table (image_picture image.now) public.now regions.now.items turns) secrets.now fault) }
+    ensures ok { IfOk result (λ recordings. AreFollowed (setup_of setup.now.book.now.table
+        (image_picture setup.now.image.now) setup.now.public.now setup.now.regions.now.items setup.now.turns)
+        secrets.now recordings) }
+    ensures err { IfErr result (λ fault. IsRunFault (setup_of setup.now.book.now.table
+        (image_picture setup.now.image.now) setup.now.public.now setup.now.regions.now.items setup.now.turns)
+        secrets.now fault) }
 {
     let mut recordings = List::new(alloc);
+    let mut memory = LabelledMemory::new(alloc, setup.image.base)?;
     for index in 0..secrets.len() {
-        match record_run(alloc, image, public, &secrets[index], regions, book, turns) {
-            Ok(recording) => {
+        match record_run(memory, alloc, setup, &secrets[index]) {
+            Ok((recording, used)) => {
+                memory = used;
                 recordings.push(recording)?;
                 recordings = gathered(alloc, recordings)?;
             }

@@ -19,6 +19,7 @@ use acceptance_law::tell_inputs;
 use elf32_loader::Image;
 use enclosure_regions::Regions;
 use flow_base::Bytes;
+use measuring::Setup;
 use std::alloc::Global;
 use transfer_rules::RuleBook;
 
@@ -34,26 +35,20 @@ fn tell_all_inputs(image: &Image, public: &Bytes, secrets: &[Bytes], regions: &R
 }
 
 /// The measure of several runs together, or why they have none; see [`measure_all`].
-fn measure_runs(
-    alloc: Global,
-    image: &Image,
-    public: &Bytes,
-    secrets: &[Bytes],
-    regions: &Regions,
-    book: &RuleBook,
-    turns: u32,
-) -> Result<Many, ManyFault>
+fn measure_runs(alloc: Global, setup: &Setup<'_>, secrets: &[Bytes]) -> Result<Many, ManyFault>
     requires few { length secrets.now ≤ 64 }
     requires short { list_all is_short_secret secrets.now ≡ true }
-    requires regions { are_regions regions.now.items ≡ true }
-    requires turns { turns ≤ 20000000 }
-    ensures ok { IfOk result (λ many. MeasuresTogether
-        (setup_of book.now.table (image_picture image.now) public.now regions.now.items turns) secrets.now many) }
-    ensures err { IfErr result (λ fault. HasManyCause
-        (setup_of book.now.table (image_picture image.now) public.now regions.now.items turns) secrets.now fault) }
+    requires regions { are_regions setup.now.regions.now.items ≡ true }
+    requires turns { setup.now.turns ≤ 20000000 }
+    ensures ok { IfOk result (λ many. MeasuresTogether (setup_of setup.now.book.now.table
+        (image_picture setup.now.image.now) setup.now.public.now setup.now.regions.now.items setup.now.turns)
+        secrets.now many) }
+    ensures err { IfErr result (λ fault. HasManyCause (setup_of setup.now.book.now.table
+        (image_picture setup.now.image.now) setup.now.public.now setup.now.regions.now.items setup.now.turns)
+        secrets.now fault) }
 {
     let secret_len = common_length(secrets)?;
-    let recordings = record_runs(alloc, image, public, secrets, regions, book, turns)?;
+    let recordings = record_runs(alloc, setup, secrets)?;
     let union = unite(alloc, recordings.as_slice())?;
     weigh_all(alloc, secret_len, union)
 }
@@ -92,6 +87,13 @@ pub fn measure_all(
         AreAcceptedByFolds (image_picture image.now) public.now regions.now.items secrets.now turns many) }
     ensures short { IfOk result (λ many. HasShortText (cut_picture many.cut)) }
 {
+    let setup = Setup {
+        image,
+        public,
+        regions,
+        book,
+        turns,
+    };
     tell_all_inputs(image, public, secrets, regions);
-    measure_runs(alloc, image, public, secrets, regions, book, turns)
+    measure_runs(alloc, &setup, secrets)
 }

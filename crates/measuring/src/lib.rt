@@ -14,6 +14,7 @@ mod laws;
 mod measured;
 mod point_visits;
 mod recordings;
+mod setups;
 mod splitting;
 mod visit_counts;
 mod weighing;
@@ -24,7 +25,7 @@ pub use counter_rows::Row;
 #[doc(hidden)]
 pub use cutting::cut_of;
 #[doc(hidden)]
-pub use following::{Exit, RunEnd, follow};
+pub use following::{Exit, RunEnd, follow, follow_in};
 #[doc(hidden)]
 pub use kept_visits::KeptVisits;
 pub use laws::measured_runs_have_no_cause;
@@ -34,5 +35,9 @@ pub use point_visits::{PointVisits, VisitRun};
 #[doc(hidden)]
 pub use recordings::Recording;
 pub use run_labels::MeasureFault;
+#[doc(hidden)]
+pub use setups::Setup;
+#[doc(hidden)]
+pub use tracked_run::LabelledMemory;
 #[doc(hidden)]
 pub use visit_counts::VisitCounts;

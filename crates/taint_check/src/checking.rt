@@ -9,7 +9,6 @@ ghost use Rattle.taint_check.specs.Private.Turns.{Begins, IsReady};
 
 use crate::beginning::beginning;
 use crate::clearing::Clearing;
-use crate::masked_memory::MaskedMemory;
 use crate::turns::make_turn;
 use crate::verdicts::TaintVerdict;
 use crate::whys::TaintWhy;
@@ -22,6 +21,7 @@ use lockstep_replay::Tallying;
 use region_machine::{MarkedRegions, OUTPUT_LIMIT};
 use rv32im_machine::{Machine, Stepped};
 use std::alloc::Global;
+use tracked_run::LabelledMemory;
 use transfer_rules::RuleBook;
 
 /// The status with which a run has exited, if it has.
@@ -36,7 +36,7 @@ fn exit_status(mode: Stepped) -> Option<u8>
 }
 
 /// The verdict of a run that has exited with this status, with the memory for the next check.
-fn clean(machine: Machine, side: Clearing<'_>, status: u8) -> (TaintVerdict, MaskedMemory)
+fn clean(machine: Machine, side: Clearing<'_>, status: u8) -> (TaintVerdict, LabelledMemory)
     ensures { finding_of result.0 ≡ IsClean side.entry.tally.bits.bits
         (record { bytes = machine.control.output; status = status }) }
 {
@@ -44,22 +44,22 @@ fn clean(machine: Machine, side: Clearing<'_>, status: u8) -> (TaintVerdict, Mas
     let Tallying { bits, .. } = tally;
     let (bytes, guest) = machine.into_parts();
     let output = Output { bytes, status };
-    let memory = MaskedMemory {
+    let memory = LabelledMemory {
         guest,
-        masks: shadow,
+        labels: shadow,
     };
     (TaintVerdict::Clean { bits, output }, memory)
 }
 
 /// The verdict of a run that is unclear for a reason, with the memory for the next check.
-fn unclear(machine: Machine, side: Clearing<'_>, why: TaintWhy) -> (TaintVerdict, MaskedMemory)
+fn unclear(machine: Machine, side: Clearing<'_>, why: TaintWhy) -> (TaintVerdict, LabelledMemory)
     ensures { finding_of result.0 ≡ IsUnclear why }
 {
     let Clearing { shadow, .. } = side;
     let (_output, guest) = machine.into_parts();
-    let memory = MaskedMemory {
+    let memory = LabelledMemory {
         guest,
-        masks: shadow,
+        labels: shadow,
     };
     (TaintVerdict::Unclear(why), memory)
 }
@@ -72,7 +72,7 @@ fn run_turns(
     marked: &MarkedRegions,
     skip: &[u16],
     turns: u32,
-) -> Result<(TaintVerdict, MaskedMemory), NoMemory>
+) -> Result<(TaintVerdict, LabelledMemory), NoMemory>
     requires { IsReady marked.now.regions.items machine (tape_of side.book.now.table side.shadow side.tally
         side.look side.left) }
     ensures { IfOk result (λ made. (task : Task) (limits : Limits) (secret : Seq ℕ) →
@@ -98,7 +98,7 @@ fn run_turns(
 /// The verdict of a check of one secret in this memory, and the memory for the next check. `NoMemory` where there is not
 /// enough.
 fn checked(
-    memory: MaskedMemory,
+    memory: LabelledMemory,
     alloc: Global,
     image: &Image,
     public: &Bytes,
@@ -108,7 +108,7 @@ fn checked(
     book: &RuleBook,
     budget: u32,
     turns: u32,
-) -> Result<(TaintVerdict, MaskedMemory), NoMemory>
+) -> Result<(TaintVerdict, LabelledMemory), NoMemory>
     requires secret { length secret.now < 2 ^ 32 }
     requires budget { budget < 4294967295 }
     ensures { IfOk result (λ made. IsVerdict book.now.table
@@ -123,9 +123,9 @@ fn checked(
         };
         return Ok((TaintVerdict::Unclear(why), memory));
     }
-    let MaskedMemory { guest, masks } = memory;
+    let LabelledMemory { guest, labels } = memory;
     let machine = Machine::new_in(guest, alloc, image, public, secret, OUTPUT_LIMIT)?;
-    let side = beginning(masks, alloc, image.base, cut, book, budget)?;
+    let side = beginning(labels, alloc, image.base, cut, book, budget)?;
     let marked = MarkedRegions::new(alloc, copy_regions(alloc, regions)?)?;
     run_turns(machine, side, &marked, cut.skip.as_slice(), turns)
 }
@@ -155,7 +155,7 @@ pub fn taint(
         (task_of (image_picture image.now) public.now regions.now.items (cut_picture cut.now))
         (record { budget = budget; turns = turns }) secret.now (finding_of verdict)) }
 {
-    let memory = MaskedMemory::new(alloc, image.base)?;
+    let memory = LabelledMemory::new(alloc, image.base)?;
     let (verdict, _memory) = taint_in(
         memory, alloc, image, public, secret, regions, cut, book, budget, turns,
     )?;
@@ -166,7 +166,7 @@ pub fn taint(
 /// verdict is that of a fresh start. It takes the time of what that check has written in place of 16 MiB and their masks.
 /// It hands the memory out again. `NoMemory` where there is not enough; the memory is then freed.
 pub fn taint_in(
-    memory: MaskedMemory,
+    memory: LabelledMemory,
     alloc: Global,
     image: &Image,
     public: &Bytes,
@@ -176,7 +176,7 @@ pub fn taint_in(
     book: &RuleBook,
     budget: u32,
     turns: u32,
-) -> Result<(TaintVerdict, MaskedMemory), NoMemory>
+) -> Result<(TaintVerdict, LabelledMemory), NoMemory>
     requires secret { length secret.now < 2 ^ 32 }
     requires budget { budget < 4294967295 }
     ensures verdict { IfOk result (λ made. IsVerdict book.now.table

@@ -6,7 +6,6 @@ mod beginning;
 mod checking;
 mod clearing;
 mod laws;
-mod masked_memory;
 mod reasons;
 mod turns;
 mod verdicts;
@@ -14,6 +13,6 @@ mod whys;
 
 pub use checking::{taint, taint_in};
 pub use laws::{clean_secrets_are_accepted, verdicts_are_one};
-pub use masked_memory::MaskedMemory;
+pub use tracked_run::LabelledMemory;
 pub use verdicts::TaintVerdict;
 pub use whys::TaintWhy;

@@ -17,19 +17,19 @@ use cut_file::Cut;
 use flow_base::{Bytes, NoMemory};
 use leak_report::taken_line;
 use std::alloc::Global;
-use taint_check::{MaskedMemory, TaintVerdict, TaintWhy, taint_in};
+use taint_check::{LabelledMemory, TaintVerdict, TaintWhy, taint_in};
 use transfer_rules::RuleBook;
 
 /// What is found of a secret, in the memory of another one, and this for the next one.
 fn find_in(
-    memory: MaskedMemory,
+    memory: LabelledMemory,
     alloc: Global,
     guest: &Guest,
     cut: &Cut,
     secret: &Bytes,
     limits: Limits,
     book: &RuleBook,
-) -> Result<(TaintVerdict, MaskedMemory), NoMemory>
+) -> Result<(TaintVerdict, LabelledMemory), NoMemory>
     requires short { length secret.now ≤ 65536 }
     ensures { IfOk result (λ found. IsFinding book.now.table (judged_by (guest_in guest.now) (cut_picture cut.now))
         (limits_in limits) secret.now (finding_of found.0)) }
@@ -100,7 +100,7 @@ fn lines_of(
 {
     let mut text = Vec::new(alloc);
     let mut clean = 0;
-    let mut memory = MaskedMemory::new(alloc, guest.image.base)?;
+    let mut memory = LabelledMemory::new(alloc, guest.image.base)?;
     for (place, secret) in secrets.iter().enumerate() {
         let (verdict, used) = find_in(memory, alloc, guest, cut, secret, limits, book)?;
         memory = used;

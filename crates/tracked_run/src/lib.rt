@@ -5,6 +5,7 @@
 mod again;
 mod changes;
 mod held;
+mod labelled_memory;
 mod linking;
 mod noting;
 mod outcomes;
@@ -18,6 +19,7 @@ mod turns;
 
 pub use changes::{note_move, note_restore, note_save};
 pub use held::Held;
+pub use labelled_memory::LabelledMemory;
 pub use outcomes::{Spent, TrackedTurn};
 pub use passing_masks::work_mask;
 pub use placing::{labelled, put_aimed};

@@ -1,6 +1,7 @@
 ghost use Rattle.std.specs.Prelude.{◌≡◌, None, IsTrue};
 ghost use Rattle.region_machine.specs.Within.{may_leave};
 
+use crate::labelled_memory::LabelledMemory;
 use crate::outcomes::{Spent, TrackedTurn, spent_after};
 use crate::turns::make_turn;
 use elf32_loader::Image;
@@ -51,8 +52,33 @@ impl<'a> Tracked<'a> {
         ensures table { IfOk result (λ tracked. tracked.book.now.table ≡ book.now.table) }
         ensures unspent { IfOk result (λ tracked. tracked.spent ≡ None) }
     {
-        let machine = Machine::new(alloc, image, public, secret, OUTPUT_LIMIT)?;
-        let shadow = Shadow::new(alloc, image.base)?;
+        let memory = LabelledMemory::new(alloc, image.base)?;
+        Tracked::new_in(memory, alloc, image, public, secret, regions, book)
+    }
+
+    /// The same run at its start in the memory that another one has handed out, whatever its guest was: nothing of it is
+    /// left, so the run is that of a fresh start. It takes the time of what that run has written in place of 16 MiB and
+    /// their labels.
+    /// `NoMemory` where there is not enough; the memory is then freed.
+    pub fn new_in(
+        memory: LabelledMemory,
+        alloc: Global,
+        image: &Image,
+        public: &Bytes,
+        secret: &Bytes,
+        regions: &Regions,
+        book: &'a RuleBook,
+    ) -> Result<Tracked<'a>, NoMemory>
+        requires { length secret.now < 2 ^ 32 }
+        ensures stands { IfOk result (λ tracked. Stands tracked.machine tracked.shadow
+            (unlabelled (guest (image_picture image.now) public.now secret.now))) }
+        ensures regions { IfOk result (λ tracked. tracked.marked.regions.items ≡ regions.now.items) }
+        ensures table { IfOk result (λ tracked. tracked.book.now.table ≡ book.now.table) }
+        ensures unspent { IfOk result (λ tracked. tracked.spent ≡ None) }
+    {
+        let LabelledMemory { guest, labels } = memory;
+        let machine = Machine::new_in(guest, alloc, image, public, secret, OUTPUT_LIMIT)?;
+        let shadow = Shadow::new_in(labels, image.base);
         let marked = MarkedRegions::new(alloc, copy_regions(alloc, regions)?)?;
         Ok(Tracked {
             machine,
@@ -115,10 +141,23 @@ impl<'a> Tracked<'a> {
         self.machine.output()
     }
 
-    /// The bytes that the guest has written, handed out. It takes no memory.
-    pub fn into_output(self) -> Bytes
-        ensures { result ≡ self.entry.machine.control.output }
+    /// The bytes that the guest has written and the memory of the run, handed out, the second for another run to begin in,
+    /// whatever this one has come to. It takes no memory.
+    pub fn into_parts(self) -> (Bytes, LabelledMemory)
+        ensures output { result.0 ≡ self.entry.machine.control.output }
+        ensures guest { result.1.guest ≡ self.entry.machine.store.memory }
+        ensures labels { result.1.labels ≡ self.entry.shadow }
     {
-        self.machine.into_output()
+        let Tracked {
+            machine,
+            shadow,
+            ..
+        } = self;
+        let (output, guest) = machine.into_parts();
+        let memory = LabelledMemory {
+            guest,
+            labels: shadow,
+        };
+        (output, memory)
     }
 }

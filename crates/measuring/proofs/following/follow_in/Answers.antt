@@ -4,7 +4,7 @@ use Rattle.tracked_run.specs.Outcomes.{spent_by}
 use Rattle.tracked_run.specs.declared.outcomes.TrackedTurn.TheVariants.{Ran, Exited, Refused}
 use Rattle.std.proofs.Common.{Ok}
 use Rattle.measuring.proofs.FollowedTurns.{starts, ran, exits, is_refused, turn_is}
-use Rattle.measuring.proofs.following.follow.Goals as goal
+use Rattle.measuring.proofs.following.follow_in.Goals as goal
 
 pub loop-made-init : goal.loop-made-init
 loop-made-init g c = record {
@@ -17,12 +17,12 @@ loop-made-init g c = record {
 
 pub returns-in-Exited : goal.returns-in-Exited
 returns-in-Exited g c =
-    exits _ _ _ _ c.loop-made.made _ c.turn.new.self.machine _ c.turn.new.self.shadow _ _ c.into_output.result
+    exits _ _ _ _ c.loop-made.made _ c.turn.new.self.machine _ c.turn.new.self.shadow _ _ c.into_parts-bytes.result.0
     c.in-Exited.status c.loop-made-test.true c.loop-made.invariant.follows
     (turn_is _ _ _ _ _ c.loop-made.made _ _ _ _ _ _ c.in_ok-turn.field-0 (Exited c.in-Exited.status)
     c.loop-made.invariant.table c.loop-made.invariant.regions c.loop-made.invariant.follows
     (c.in_ok-turn.ensures.turns c.loop-made.invariant.unspent) c.in-Exited.is)
-    c.into_output.ensures
+    c.into_parts-bytes.ensures.output
 
 pub returns-in-Refused : goal.returns-in-Refused
 returns-in-Refused g c =
