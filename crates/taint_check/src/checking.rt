@@ -20,6 +20,7 @@ use enclosure_regions::{Regions, copy_regions};
 use flow_base::{Bytes, NoMemory, Output};
 use lockstep_replay::Tallying;
 use region_machine::{MarkedRegions, OUTPUT_LIMIT};
+use replay_machine::CutTable;
 use rv32im_machine::{Machine, Stepped};
 use std::alloc::Global;
 use transfer_rules::RuleBook;
@@ -125,7 +126,8 @@ fn checked(
     }
     let MaskedMemory { guest, masks } = memory;
     let machine = Machine::new_in(guest, alloc, image, public, secret, OUTPUT_LIMIT)?;
-    let side = beginning(masks, alloc, image.base, cut, book, budget)?;
+    let table = CutTable::new(alloc, cut)?;
+    let side = beginning(masks, alloc, image.base, &table, book, budget)?;
     let marked = MarkedRegions::new(alloc, copy_regions(alloc, regions)?)?;
     run_turns(machine, side, &marked, cut.skip.as_slice(), turns)
 }
