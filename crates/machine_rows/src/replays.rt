@@ -37,7 +37,10 @@ fn print_replay(rt: &HostRuntime, guest: &Guest, text: &str) -> io::Result<()> {
     let Some(mut bits) = string_of(rt.alloc(), words) else {
         return println!(rt; "{name}: no bits, or memory is short");
     };
-    let Some(mut replay) = guest.replay(rt.alloc()) else {
+    let Some(table) = guest.table(rt.alloc()) else {
+        return println!(rt; "{name}: no replay, or memory is short");
+    };
+    let Some(mut replay) = guest.replay(rt.alloc(), &table) else {
         return println!(rt; "{name}: no replay, or memory is short");
     };
     let outcome = outcome_after(&mut replay, &mut bits, turns);

@@ -6,9 +6,9 @@ ghost use Rattle.shadow_masks.specs.Writes.{default_map};
 ghost use Rattle.tracked_run.specs.Labels.{map_of};
 
 use crate::clearing::Clearing;
-use cut_file::Cut;
 use flow_base::NoMemory;
 use lockstep_replay::Tallying;
+use replay_machine::CutTable;
 use shadow_masks::Shadow;
 use std::alloc::Global;
 use tracked_run::Held;
@@ -29,7 +29,7 @@ pub(crate) fn beginning<'b>(
     masks: Shadow,
     alloc: Global,
     base: u32,
-    cut: &Cut,
+    table: &'b CutTable,
     book: &'b RuleBook,
     budget: u32,
 ) -> Result<Clearing<'b>, NoMemory>
@@ -37,7 +37,7 @@ pub(crate) fn beginning<'b>(
     requires budget { budget < 4294967295 }
     ensures masks { IfOk result (λ side. map_of side.shadow ≡ default_map) }
     ensures base { IfOk result (λ side. side.shadow.base ≡ base) }
-    ensures ahead { IfOk result (λ side. IsAhead side.tally.masks (MaskAt cut.now.points) []) }
+    ensures ahead { IfOk result (λ side. IsAhead side.tally.masks (MaskAt table.now) []) }
     ensures budget { IfOk result (λ side. side.tally.budget ≡ budget) }
     ensures bits { IfOk result (λ side. side.tally.bits.bits ≡ []) }
     ensures needed { IfOk result (λ side. side.tally.needed ≡ 0) }
@@ -46,7 +46,7 @@ pub(crate) fn beginning<'b>(
     ensures left { IfOk result (λ side. side.left ≡ None) }
 {
     let shadow = no_masks(masks, base);
-    let tally = Tallying::new(alloc, cut, budget)?;
+    let tally = Tallying::new(alloc, table, budget)?;
     Ok(Clearing {
         shadow,
         tally,

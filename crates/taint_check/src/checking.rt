@@ -19,6 +19,7 @@ use enclosure_regions::{Regions, copy_regions};
 use flow_base::{Bytes, NoMemory, Output};
 use lockstep_replay::Tallying;
 use region_machine::{MarkedRegions, OUTPUT_LIMIT};
+use replay_machine::CutTable;
 use rv32im_machine::{Machine, Stepped};
 use std::alloc::Global;
 use tracked_run::LabelledMemory;
@@ -125,7 +126,8 @@ fn checked(
     }
     let LabelledMemory { guest, labels } = memory;
     let machine = Machine::new_in(guest, alloc, image, public, secret, OUTPUT_LIMIT)?;
-    let side = beginning(labels, alloc, image.base, cut, book, budget)?;
+    let table = CutTable::new(alloc, cut)?;
+    let side = beginning(labels, alloc, image.base, &table, book, budget)?;
     let marked = MarkedRegions::new(alloc, copy_regions(alloc, regions)?)?;
     run_turns(machine, side, &marked, cut.skip.as_slice(), turns)
 }

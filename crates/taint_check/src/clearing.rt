@@ -15,7 +15,7 @@ use transfer_rules::RuleBook;
 pub(crate) struct Clearing<'b> {
     /// The masks of registers and bytes, as labels at no point.
     pub shadow: Shadow,
-    pub tally: Tallying,
+    pub tally: Tallying<'b>,
     pub book: &'b RuleBook,
     /// The masks of the operands of the turn.
     pub held: Held,

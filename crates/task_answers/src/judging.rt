@@ -3,7 +3,9 @@
 ghost use Rattle.std.specs.Prelude.{◌≡◌, ◌≢◌, ◌≤◌, Ok as Fine, length, map, IfOk, [], ◌∷◌};
 ghost use Rattle.cut_file.specs.Pictures.{cut_picture};
 ghost use Rattle.lockstep_replay.specs.Judgements.{judgement_of};
+ghost use Rattle.lockstep_replay.specs.LentTasks.{limits_in as lent_limits, task_in};
 ghost use Rattle.lockstep_replay.specs.Verdicts.{First};
+ghost use Rattle.replay_machine.specs.Visits.{SameAhead};
 ghost use Rattle.command_tasks.specs.ReadTasks.{AreShort, IsBoundedCheck, check_in, guest_in};
 ghost use Rattle.task_answers.specs.Private.JudgedLimits.{limits_in};
 ghost use Rattle.task_answers.specs.Checks.{AnswersCheck, check_reply, judged_by, judgements_of};
@@ -19,34 +21,44 @@ use command_tasks::{CheckTask, Guest};
 use cut_file::Cut;
 use flow_base::{Bytes, NoMemory};
 use leak_report::verdict_line;
-use lockstep_replay::{Lockstep, Memories, Verdict};
+use lockstep_replay::{LentTask, Lockstep, Memories, Verdict};
+use replay_machine::CutTable;
 use std::alloc::Global;
 use transfer_rules::RuleBook;
+
+/// What the secrets of a guest are judged by, lent to each of them.
+fn lent_task<'c>(
+    guest: &'c Guest<'c>,
+    cut: &'c Cut,
+    table: &'c CutTable,
+    limits: Limits,
+) -> LentTask<'c>
+    requires { SameAhead table.now cut.now.points }
+    ensures task { task_in result ≡ judged_by (guest_in guest.now) (cut_picture cut.now) }
+    ensures limits { lent_limits result ≡ limits_in limits }
+{
+    LentTask {
+        image: &guest.image,
+        public: guest.public_input,
+        regions: &guest.regions,
+        cut,
+        table,
+        budget: limits.budget,
+        turns: limits.turns,
+    }
+}
 
 /// The verdict on a secret, in the guest memories of another one, and these for the next one.
 fn judge_in(
     memories: Memories,
     alloc: Global,
-    guest: &Guest,
-    cut: &Cut,
+    task: &LentTask<'_>,
     secret: &Bytes,
-    limits: Limits,
 ) -> Result<(Verdict, Memories), NoMemory>
     requires short { length secret.now ≤ 65536 }
-    ensures { IfOk result (λ judged. judgement_of judged.0 ≡ First (judged_by (guest_in guest.now) (cut_picture cut.now))
-        (limits_in limits) secret.now) }
+    ensures { IfOk result (λ judged. judgement_of judged.0 ≡ First (task_in task.now) (lent_limits task.now) secret.now) }
 {
-    let lockstep = Lockstep::new_in(
-        memories,
-        alloc,
-        &guest.image,
-        guest.public_input,
-        secret,
-        &guest.regions,
-        cut,
-        limits.budget,
-        limits.turns,
-    )?;
+    let lockstep = Lockstep::new_in(memories, alloc, task, secret)?;
     Ok(lockstep.run_keeping())
 }
 
@@ -62,8 +74,10 @@ pub fn judge(
     ensures { IfOk result (λ verdict. judgement_of verdict ≡ First (judged_by (guest_in guest.now) (cut_picture cut.now))
         (limits_in limits) secret.now) }
 {
+    let table = CutTable::new(alloc, cut)?;
+    let task = lent_task(guest, cut, &table, limits);
     let memories = Memories::new(alloc)?;
-    let (verdict, _memories) = judge_in(memories, alloc, guest, cut, secret, limits)?;
+    let (verdict, _memories) = judge_in(memories, alloc, &task, secret)?;
     Ok(verdict)
 }
 
@@ -85,7 +99,8 @@ struct Lines {
     accepted: usize,
 }
 
-/// The lines of secrets, each judged from a fresh start, one after another in the same guest memories.
+/// The lines of secrets, each judged from a fresh start, one after another in the same guest memories, and all by one table of
+/// the cut.
 fn lines_of(
     alloc: Global,
     guest: &Guest,
@@ -101,9 +116,11 @@ fn lines_of(
 {
     let mut text = Vec::new(alloc);
     let mut accepted = 0;
+    let table = CutTable::new(alloc, cut)?;
+    let task = lent_task(guest, cut, &table, limits);
     let mut memories = Memories::new(alloc)?;
     for (place, secret) in secrets.iter().enumerate() {
-        let (verdict, used) = judge_in(memories, alloc, guest, cut, secret, limits)?;
+        let (verdict, used) = judge_in(memories, alloc, &task, secret)?;
         memories = used;
         let line = verdict_line(alloc, place + 1, &verdict)?;
         text.extend_from_slice(line.as_slice())?;

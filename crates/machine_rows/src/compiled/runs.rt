@@ -10,7 +10,8 @@ use cut_file::{Cut, read_cut};
 use elf32_loader::{Image, load_image};
 use enclosure_regions::Regions;
 use flow_base::{Bytes, Files};
-use lockstep_replay::{Lockstep, Verdict};
+use lockstep_replay::{LentTask, Lockstep, Verdict};
+use replay_machine::CutTable;
 use std::alloc::Global;
 
 /// Every bit of a secret may cross.
@@ -74,16 +75,19 @@ fn judge(
         (task_of (image_picture image.now) public_input.now [] (cut_picture cut.now)) limits secret.now) }
 {
     let regions = Regions::none(alloc);
-    let Ok(lockstep) = Lockstep::new(
-        alloc,
+    let Ok(table) = CutTable::new(alloc, cut) else {
+        return None;
+    };
+    let task = LentTask {
         image,
-        public_input,
-        secret,
-        &regions,
+        public: public_input,
+        regions: &regions,
         cut,
-        BUDGET,
-        TURNS,
-    ) else {
+        table: &table,
+        budget: BUDGET,
+        turns: TURNS,
+    };
+    let Ok(lockstep) = Lockstep::new(alloc, &task, secret) else {
         return None;
     };
     Some(lockstep.run())

@@ -3,7 +3,7 @@ use cut_file::{Cut, read_cut};
 use elf32_loader::{Image, Segment};
 use enclosure_regions::{Regions, read_regions};
 use flow_base::{Bytes, List};
-use replay_machine::Replay;
+use replay_machine::{CutTable, Replay};
 use rv32im_machine::Machine;
 use std::alloc::Global;
 
@@ -99,11 +99,18 @@ impl Guest {
         Some(())
     }
 
-    /// The replay of the guest, before its first turn.
-    pub fn replay(&self, alloc: Global) -> Option<Replay> {
+    /// The table of the guest's cut; None where it has none or memory is short.
+    pub fn table(&self, alloc: Global) -> Option<CutTable> {
+        let cut = self.cut.as_ref()?;
+        CutTable::new(alloc, cut).ok()
+    }
+
+    /// The replay of the guest with the masks of a table, before its first turn.
+    pub fn replay<'c>(&self, alloc: Global, table: &'c CutTable) -> Option<Replay<'c>> {
         let image = self.image.as_ref()?;
         let cut = self.cut.as_ref()?;
-        Replay::new(alloc, image, &Bytes::new(alloc), &self.regions, cut).ok()
+        let public = Bytes::new(alloc);
+        Replay::new(alloc, image, &public, &self.regions, cut, table).ok()
     }
 
     /// The guest's machine.

@@ -14,7 +14,7 @@ pub struct Outcome {
 }
 
 /// Makes so many turns, also after the last that does something, and says where the replay then stands.
-pub fn outcome_after(replay: &mut Replay, bits: &mut Bits, turns: u32) -> Outcome
+pub fn outcome_after(replay: &mut Replay<'_>, bits: &mut Bits, turns: u32) -> Outcome
     ensures answer { result.answer ≡ turn_answer replay.new.missing replay.new.outside replay.new.state.control.mode }
     ensures mark { result.mark ≡ mark_of replay.new }
     ensures left { result.left ≡ length (left_of bits.new) }

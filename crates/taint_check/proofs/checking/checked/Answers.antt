@@ -3,6 +3,7 @@ use Rattle.std.proofs.lemmas.Result.{IfOk-weaker}
 use Rattle.cut_file.specs.Pictures.{cut_picture}
 use Rattle.elf32_loader.specs.Images.{image_picture}
 use Rattle.lockstep_replay.specs.Tasks.{task_of}
+use Rattle.replay_machine.proofs.MasksAhead.{same_first}
 use Rattle.taint_check.specs.Tainted.{IsVerdict, finding_of}
 use Rattle.taint_check.proofs.RunVerdicts.{verdict_length}
 use Rattle.taint_check.proofs.checking.checked.Goals as goal
@@ -32,7 +33,9 @@ returns g c =
         state = c.in_ok-machine.ensures.start;
         unbroken = refl;
         labels = c.in_ok-side.ensures.masks;
-        ahead = c.in_ok-side.ensures.ahead;
+        ahead =
+            same_first c.in_ok-side.side.tally.masks c.in_ok-table.table c.args.cut.now.points c.in_ok-table.ensures
+            c.in_ok-side.ensures.ahead;
         budget = c.in_ok-side.ensures.budget;
         bits = c.in_ok-side.ensures.bits;
         needed = c.in_ok-side.ensures.needed;
