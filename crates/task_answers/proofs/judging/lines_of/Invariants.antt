@@ -11,12 +11,12 @@ invariant-loop-place l = record {
   few : l.accepted ≤ l.place;
   text :
       l.text.items ++ verdict_lines (l.place + 1)
-      (judgements_of (judged_by (guest_in l.guest) (cut_picture l.cut)) (limits_in l.limits) (drop l.place l.secrets))
+      (judgements_of (judged_by (guest_in l.fn.guest.now) (cut_picture l.cut)) (limits_in l.fn.limits) (drop l.place l.secrets))
       ≡ verdict_lines 1
-      (judgements_of (judged_by (guest_in l.guest) (cut_picture l.cut)) (limits_in l.limits) l.secrets);
+      (judgements_of (judged_by (guest_in l.fn.guest.now) (cut_picture l.cut)) (limits_in l.fn.limits) l.secrets);
   count :
       l.accepted + accepted_count
-      (judgements_of (judged_by (guest_in l.guest) (cut_picture l.cut)) (limits_in l.limits) (drop l.place l.secrets))
+      (judgements_of (judged_by (guest_in l.fn.guest.now) (cut_picture l.cut)) (limits_in l.fn.limits) (drop l.place l.secrets))
       ≡ accepted_count
-      (judgements_of (judged_by (guest_in l.guest) (cut_picture l.cut)) (limits_in l.limits) l.secrets);
+      (judgements_of (judged_by (guest_in l.fn.guest.now) (cut_picture l.cut)) (limits_in l.fn.limits) l.secrets);
 }

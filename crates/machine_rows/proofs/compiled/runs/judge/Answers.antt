@@ -10,7 +10,7 @@ pub returns : goal.returns
 returns c =
     c.run.ensures
     (task_of (image_picture c.args.image.now) c.args.public_input.now c.none-regions.result.items (cut_picture c.args.cut.now))
-    limits c.args.secret.now c.in-Ok-lockstep.ensures
+    limits c.args.secret.now c.in-Ok-new.ensures
     ∙ ap (λ regions. First
     (task_of (image_picture c.args.image.now) c.args.public_input.now regions (cut_picture c.args.cut.now)) limits
     c.args.secret.now) c.none-regions.ensures
