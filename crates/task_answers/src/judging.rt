@@ -99,28 +99,19 @@ struct Lines {
     accepted: usize,
 }
 
-/// The lines of secrets, each judged from a fresh start, one after another in the same guest memories, and all by one table of
-/// the cut.
-fn lines_of(
-    alloc: Global,
-    guest: &Guest,
-    cut: &Cut,
-    secrets: &[Bytes],
-    limits: Limits,
-) -> Result<Lines, NoMemory>
+/// The lines of secrets, each judged from a fresh start, one after another in the same guest memories.
+fn lines_of(alloc: Global, task: &LentTask<'_>, secrets: &[Bytes]) -> Result<Lines, NoMemory>
     requires short { AreShort secrets.now }
-    ensures text { IfOk result (λ lines. lines.text.items ≡ verdict_lines 1 (judgements_of
-        (judged_by (guest_in guest.now) (cut_picture cut.now)) (limits_in limits) secrets.now)) }
-    ensures accepted { IfOk result (λ lines. lines.accepted ≡ accepted_count (judgements_of
-        (judged_by (guest_in guest.now) (cut_picture cut.now)) (limits_in limits) secrets.now)) }
+    ensures text { IfOk result (λ lines. lines.text.items ≡ verdict_lines 1
+        (judgements_of (task_in task.now) (lent_limits task.now) secrets.now)) }
+    ensures accepted { IfOk result (λ lines. lines.accepted ≡ accepted_count
+        (judgements_of (task_in task.now) (lent_limits task.now) secrets.now)) }
 {
     let mut text = Vec::new(alloc);
     let mut accepted = 0;
-    let table = CutTable::new(alloc, cut)?;
-    let task = lent_task(guest, cut, &table, limits);
     let mut memories = Memories::new(alloc)?;
     for (place, secret) in secrets.iter().enumerate() {
-        let (verdict, used) = judge_in(memories, alloc, &task, secret)?;
+        let (verdict, used) = judge_in(memories, alloc, task, secret)?;
         memories = used;
         let line = verdict_line(alloc, place + 1, &verdict)?;
         text.extend_from_slice(line.as_slice())?;
@@ -129,7 +120,7 @@ fn lines_of(
     Ok(Lines { text, accepted })
 }
 
-/// The reply to a check of secrets by a second machine.
+/// The reply to a check of secrets by a second machine, all by one table of the cut.
 #[tactic(auto, using(crate::proofs::Judgements::length_judgements))]
 fn replay_secrets(
     alloc: Global,
@@ -142,7 +133,9 @@ fn replay_secrets(
     ensures { IfOk result (λ reply. reply ≡ check_reply (judgements_of (judged_by (guest_in guest.now) (cut_picture cut.now))
         (limits_in limits) secrets.now) limits.budget) }
 {
-    let lines = lines_of(alloc, guest, cut, secrets, limits)?;
+    let table = CutTable::new(alloc, cut)?;
+    let task = lent_task(guest, cut, &table, limits);
+    let lines = lines_of(alloc, &task, secrets)?;
     let budget = limits.budget;
     let counts = counts_line(alloc, "accepted", secrets.len(), lines.accepted, budget)?;
     let status = status_of(lines.accepted, secrets.len());
