@@ -12,7 +12,7 @@ returns-then-exit-clause-err g c =
     (start_on (setup_of c.args.setup.now.book.now.table
     (image_picture c.args.setup.now.image.now) c.args.setup.now.public.now c.args.setup.now.regions.now.items
     c.args.setup.now.turns) c.args.secret.now) c.args.setup.now.turns)
-    c.in-Exited.field-0-is c.in-Exited.ensures) c.if-exit.true
+    c.in-Exited.is c.in-Ok.ensures) c.if-exit.true
 
 pub returns-else-exit-clause-ok : goal.returns-else-exit-clause-ok
 returns-else-exit-clause-ok g c =
@@ -21,4 +21,4 @@ returns-else-exit-clause-ok g c =
     (start_on (setup_of c.args.setup.now.book.now.table
     (image_picture c.args.setup.now.image.now) c.args.setup.now.public.now c.args.setup.now.regions.now.items
     c.args.setup.now.turns) c.args.secret.now) c.args.setup.now.turns)
-    c.in-Exited.field-0-is c.in-Exited.ensures) c.if-exit.false
+    c.in-Exited.is c.in-Ok.ensures) c.if-exit.false
