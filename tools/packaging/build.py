@@ -2,9 +2,10 @@
 
 Call: build.py [--look]
 
-The gate, .ci/run, builds the program too: after it there is nothing to do. Else `rt run` proves each crate on which the
-program stands and that was not proved here, and a line is printed for each that is done, with the minutes since it
-began. What the gate has kept elsewhere on the machine is not taken by `rt run`.
+The gate, .ci/run, builds the program too: after it there is nothing to do. Else each crate on which the program stands
+and that was not proved here is proved, several side by side, by `rt all check`; then `rt run` builds the program. A line
+is printed for each crate that is done, with the minutes since it began. What `rt` says goes into build.log beside the
+program. What the gate has kept elsewhere on the machine is not taken.
 
   --look   says what would be done, and does nothing
 
@@ -20,7 +21,10 @@ import time
 TOP = os.path.dirname(os.path.dirname(os.path.dirname(os.path.abspath(__file__))))
 CRATES = os.path.join(TOP, "crates")
 PROGRAM = os.path.join(CRATES, "flowcheck", "out", "flowcheck")
+LOG = os.path.join(CRATES, "flowcheck", "out", "build.log")
 PARTS = ("src", "specs", "proofs", "c")
+# In kB, as /proc/meminfo counts.
+MEMORY_OF_A_PROOF = 4_000_000
 NO_KIT = (
     "There is no rt on the PATH. The program is built by the Rattle kit rattle-kit-13, one folder from the makers of "
     "Rattle. Without it take an archive that make dist made, or name a program that was built elsewhere: make install "
@@ -64,25 +68,41 @@ def told(text):
     print(text, flush=True)
 
 
-def build(crates):
-    """Runs `rt run`, and says which crates it has proved until now; its status."""
-    begin, before = time.time(), proved(crates)
+def side_by_side():
+    """How many crates are proved at once: one for each processor and each 4 GB of memory that is free."""
+    with open("/proc/meminfo", encoding="ascii") as file:
+        free = int(re.search(r"MemAvailable: *(\d+) kB", file.read())[1]) // MEMORY_OF_A_PROOF
+    return max(1, min(len(os.sched_getaffinity(0)), free))
+
+
+def follow(process, crates, before, begin):
+    """Waits for a process, and prints a line for each crate that is proved until it ends."""
     done = set()
-    words = ["rt", "run", "--", "--version"]
-    with subprocess.Popen(words, cwd=os.path.join(CRATES, "flowcheck")) as process:
-        try:
-            while process.poll() is None:
-                time.sleep(1)
-                now = proved(crates)
-                for crate in sorted(set(now) - done, key=now.get):
-                    if now[crate] != before.get(crate):
-                        done.add(crate)
-                        told(f"{(time.time() - begin) / 60:6.1f} min  {crate} is proved, {len(now)} of {len(crates)}")
-        except KeyboardInterrupt:
-            told("stopped; make goes on with what was proved until now")
-            process.wait()
-            return 130
-    told(f"{(time.time() - begin) / 60:6.1f} min  rt run ended with status {process.returncode}")
+    while process.poll() is None:
+        time.sleep(1)
+        now = proved(crates)
+        for crate in sorted(set(now) - done, key=now.get):
+            if now[crate] != before.get(crate):
+                done.add(crate)
+                told(f"{(time.time() - begin) / 60:6.1f} min  {crate} is proved, {len(now)} of {len(crates) - 1}")
+
+
+def build(crates):
+    """Proves what is not proved, and builds the program; the status of `rt run`, which goes on where proofs failed."""
+    begin, folder = time.time(), os.path.dirname(os.path.dirname(PROGRAM))
+    os.makedirs(os.path.dirname(PROGRAM), exist_ok=True)
+    with open(LOG, "w", encoding="utf-8") as log:
+        for words in (["rt", "all", "check", "--jobs", str(side_by_side())], ["rt", "run", "--", "--version"]):
+            with subprocess.Popen(words, cwd=folder, stdout=log, stderr=subprocess.STDOUT) as process:
+                try:
+                    follow(process, crates, proved(crates), begin)
+                except KeyboardInterrupt:
+                    told("stopped; make goes on with what was proved until now")
+                    process.wait()
+                    return 130
+            told(f"{(time.time() - begin) / 60:6.1f} min  {' '.join(words)} ended with status {process.returncode}")
+    if process.returncode:
+        told(f"What it said is in {os.path.relpath(LOG, TOP)}.")
     return process.returncode
 
 
@@ -97,8 +117,8 @@ def main():
         told(f"{shown} is there, and no source of its {len(crates)} crates is newer: nothing is to be built.")
         return 0
     why = f"{name} is newer than {shown}" if os.path.exists(PROGRAM) else f"there is no {shown}"
-    told(f"The program is built, as {why}: rt run proves those of its {len(crates)} crates that are not proved here. "
-         "From nothing that takes an hour on four processors.")
+    told(f"The program is built, as {why}: those of its {len(crates)} crates that are not proved here are proved. "
+         "From nothing that takes half an hour or more on four processors.")
     if words.look:
         return 0
     if not shutil.which("rt"):
