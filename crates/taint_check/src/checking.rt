@@ -1,6 +1,7 @@
 ghost use Rattle.std.specs.Prelude.{◌≡◌, ℕ, ◌<◌, ◌^◌, [], length, IfOk, List as Seq};
 ghost use Rattle.elf32_loader.specs.Images.{image_picture};
 ghost use Rattle.cut_file.specs.Pictures.{cut_picture};
+ghost use Rattle.lockstep_replay.specs.LentTasks.{limits_in, task_in};
 ghost use Rattle.lockstep_replay.specs.Tasks.{Task, Limits, task_of};
 ghost use Rattle.taint_check.specs.Laws.{IsAcceptedIfClean};
 ghost use Rattle.taint_check.specs.Tainted.{IsClean, IsUnclear, IsVerdict, exit_of, finding_of};
@@ -17,7 +18,7 @@ use cut_file::Cut;
 use elf32_loader::Image;
 use enclosure_regions::{Regions, copy_regions};
 use flow_base::{Bytes, NoMemory, Output};
-use lockstep_replay::Tallying;
+use lockstep_replay::{LentTask, Tallying};
 use region_machine::{MarkedRegions, OUTPUT_LIMIT};
 use replay_machine::CutTable;
 use rv32im_machine::{Machine, Stepped};
@@ -101,21 +102,15 @@ fn run_turns(
 fn checked(
     memory: LabelledMemory,
     alloc: Global,
-    image: &Image,
-    public: &Bytes,
+    task: &LentTask<'_>,
     secret: &Bytes,
-    regions: &Regions,
-    cut: &Cut,
     book: &RuleBook,
-    budget: u32,
-    turns: u32,
 ) -> Result<(TaintVerdict, LabelledMemory), NoMemory>
-    requires secret { length secret.now < 2 ^ 32 }
-    requires budget { budget < 4294967295 }
-    ensures { IfOk result (λ made. IsVerdict book.now.table
-        (task_of (image_picture image.now) public.now regions.now.items (cut_picture cut.now))
-        (record { budget = budget; turns = turns }) secret.now (finding_of made.0)) }
+    requires { length secret.now < 2 ^ 32 }
+    ensures { IfOk result (λ made. IsVerdict book.now.table (task_in task.now) (limits_in task.now) secret.now
+        (finding_of made.0)) }
 {
+    let cut = task.cut;
     let got = secret.len() as u32;
     if got != cut.secret_len {
         let why = TaintWhy::SecretLength {
@@ -125,11 +120,11 @@ fn checked(
         return Ok((TaintVerdict::Unclear(why), memory));
     }
     let LabelledMemory { guest, labels } = memory;
-    let machine = Machine::new_in(guest, alloc, image, public, secret, OUTPUT_LIMIT)?;
-    let table = CutTable::new(alloc, cut)?;
-    let side = beginning(labels, alloc, image.base, &table, book, budget)?;
-    let marked = MarkedRegions::new(alloc, copy_regions(alloc, regions)?)?;
-    run_turns(machine, side, &marked, cut.skip.as_slice(), turns)
+    let image = task.image;
+    let machine = Machine::new_in(guest, alloc, image, task.public, secret, OUTPUT_LIMIT)?;
+    let side = beginning(labels, alloc, image.base, task.table, book, task.budget)?;
+    let marked = MarkedRegions::new(alloc, copy_regions(alloc, task.regions)?)?;
+    run_turns(machine, side, &marked, cut.skip.as_slice(), task.turns)
 }
 
 /// Checks one secret of fewer than 2^32 bytes against a cut with one machine, for one program with its regions and one
@@ -157,40 +152,38 @@ pub fn taint(
         (task_of (image_picture image.now) public.now regions.now.items (cut_picture cut.now))
         (record { budget = budget; turns = turns }) secret.now (finding_of verdict)) }
 {
+    let table = CutTable::new(alloc, cut)?;
+    let task = LentTask {
+        image,
+        public,
+        regions,
+        cut,
+        table: &table,
+        budget,
+        turns,
+    };
     let memory = LabelledMemory::new(alloc, image.base)?;
-    let (verdict, _memory) = taint_in(
-        memory, alloc, image, public, secret, regions, cut, book, budget, turns,
-    )?;
+    let (verdict, _memory) = taint_in(memory, alloc, &task, secret, book)?;
     Ok(verdict)
 }
 
-/// The same check in the memory that another one has handed out, whatever its guest was: nothing of it is left, so the
-/// verdict is that of a fresh start. It takes the time of what that check has written in place of 16 MiB and their masks.
-/// It hands the memory out again. `NoMemory` where there is not enough; the memory is then freed.
+/// The same check of one secret of a task, in the memory that another one has handed out, whatever its guest was: nothing
+/// of it is left, so the verdict is that of a fresh start. It takes the time of what that check has written in place of
+/// 16 MiB and their masks. It hands the memory out again. `NoMemory` where there is not enough; the memory is then freed.
 pub fn taint_in(
     memory: LabelledMemory,
     alloc: Global,
-    image: &Image,
-    public: &Bytes,
+    task: &LentTask<'_>,
     secret: &Bytes,
-    regions: &Regions,
-    cut: &Cut,
     book: &RuleBook,
-    budget: u32,
-    turns: u32,
 ) -> Result<(TaintVerdict, LabelledMemory), NoMemory>
-    requires secret { length secret.now < 2 ^ 32 }
-    requires budget { budget < 4294967295 }
-    ensures verdict { IfOk result (λ made. IsVerdict book.now.table
-        (task_of (image_picture image.now) public.now regions.now.items (cut_picture cut.now))
-        (record { budget = budget; turns = turns }) secret.now (finding_of made.0)) }
-    ensures accepted { IfOk result (λ made. IsAcceptedIfClean
-        (task_of (image_picture image.now) public.now regions.now.items (cut_picture cut.now))
-        (record { budget = budget; turns = turns }) secret.now (finding_of made.0)) }
+    requires { length secret.now < 2 ^ 32 }
+    ensures verdict { IfOk result (λ made. IsVerdict book.now.table (task_in task.now) (limits_in task.now) secret.now
+        (finding_of made.0)) }
+    ensures accepted { IfOk result (λ made. IsAcceptedIfClean (task_in task.now) (limits_in task.now) secret.now
+        (finding_of made.0)) }
 {
-    tell_inputs(image, public, secret, regions);
-    tell_cut(cut);
-    checked(
-        memory, alloc, image, public, secret, regions, cut, book, budget, turns,
-    )
+    tell_inputs(task.image, task.public, secret, task.regions);
+    tell_cut(task.cut);
+    checked(memory, alloc, task, secret, book)
 }

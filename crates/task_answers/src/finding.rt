@@ -2,6 +2,7 @@
 
 ghost use Rattle.std.specs.Prelude.{◌≡◌, ◌≤◌, ◌∷◌, [], List as Seq, Ok as Fine, length, IfOk};
 ghost use Rattle.cut_file.specs.Pictures.{cut_picture};
+ghost use Rattle.lockstep_replay.specs.LentTasks.{limits_in as lent_limits, task_in};
 ghost use Rattle.taint_check.specs.Tainted.{Finding, IsUnclear, finding_of};
 ghost use Rattle.command_tasks.specs.ReadTasks.{AreShort, guest_in};
 ghost use Rattle.task_answers.specs.Private.JudgedLimits.{limits_in};
@@ -9,6 +10,7 @@ ghost use Rattle.task_answers.specs.Checks.{judged_by};
 ghost use Rattle.task_answers.specs.Findings.{AnswersTaint, AreFindings, IsFinding};
 ghost use Rattle.task_answers.specs.Texts.{clean_count, finding_line as finding_line_of, finding_lines};
 
+use crate::lent_tasks::lent_task;
 use crate::limits::Limits;
 use crate::replies::Reply;
 use crate::texts::{counts_line, status_of};
@@ -16,6 +18,8 @@ use command_tasks::Guest;
 use cut_file::Cut;
 use flow_base::{Bytes, NoMemory};
 use leak_report::taken_line;
+use lockstep_replay::LentTask;
+use replay_machine::CutTable;
 use std::alloc::Global;
 use taint_check::{LabelledMemory, TaintVerdict, TaintWhy, taint_in};
 use transfer_rules::RuleBook;
@@ -24,28 +28,15 @@ use transfer_rules::RuleBook;
 fn find_in(
     memory: LabelledMemory,
     alloc: Global,
-    guest: &Guest,
-    cut: &Cut,
+    task: &LentTask<'_>,
     secret: &Bytes,
-    limits: Limits,
     book: &RuleBook,
 ) -> Result<(TaintVerdict, LabelledMemory), NoMemory>
     requires short { length secret.now ≤ 65536 }
-    ensures { IfOk result (λ found. IsFinding book.now.table (judged_by (guest_in guest.now) (cut_picture cut.now))
-        (limits_in limits) secret.now (finding_of found.0)) }
+    ensures { IfOk result (λ found. IsFinding book.now.table (task_in task.now) (lent_limits task.now) secret.now
+        (finding_of found.0)) }
 {
-    taint_in(
-        memory,
-        alloc,
-        &guest.image,
-        guest.public_input,
-        secret,
-        &guest.regions,
-        cut,
-        book,
-        limits.budget,
-        limits.turns,
-    )
+    taint_in(memory, alloc, task, secret, book)
 }
 
 /// The line of a secret that is unclear.
@@ -87,22 +78,20 @@ struct Lines {
 /// The lines of secrets, each followed from a fresh start, one after another in the same memory.
 fn lines_of(
     alloc: Global,
-    guest: &Guest,
-    cut: &Cut,
+    task: &LentTask<'_>,
     secrets: &[Bytes],
-    limits: Limits,
     book: &RuleBook,
 ) -> Result<Lines, NoMemory>
     requires short { AreShort secrets.now }
     ensures { IfOk result (λ lines. (findings : Seq Finding)
-        × AreFindings book.now.table (judged_by (guest_in guest.now) (cut_picture cut.now)) (limits_in limits) secrets.now
-        findings × (lines.text.items ≡ finding_lines 1 findings) × (lines.clean ≡ clean_count findings)) }
+        × AreFindings book.now.table (task_in task.now) (lent_limits task.now) secrets.now findings
+        × (lines.text.items ≡ finding_lines 1 findings) × (lines.clean ≡ clean_count findings)) }
 {
     let mut text = Vec::new(alloc);
     let mut clean = 0;
-    let mut memory = LabelledMemory::new(alloc, guest.image.base)?;
+    let mut memory = LabelledMemory::new(alloc, task.image.base)?;
     for (place, secret) in secrets.iter().enumerate() {
-        let (verdict, used) = find_in(memory, alloc, guest, cut, secret, limits, book)?;
+        let (verdict, used) = find_in(memory, alloc, task, secret, book)?;
         memory = used;
         let line = finding_line(alloc, place + 1, &verdict)?;
         text.extend_from_slice(line.as_slice())?;
@@ -111,7 +100,7 @@ fn lines_of(
     Ok(Lines { text, clean })
 }
 
-/// The reply to a check of secrets with one machine, by the mask rules of a book.
+/// The reply to a check of secrets with one machine, by the mask rules of a book, all by one table of the cut.
 pub fn find_secrets(
     alloc: Global,
     guest: &Guest,
@@ -124,7 +113,9 @@ pub fn find_secrets(
     ensures { IfOk result (λ reply. AnswersTaint book.now.table (judged_by (guest_in guest.now) (cut_picture cut.now))
         (limits_in limits) secrets.now (Fine reply)) }
 {
-    let lines = lines_of(alloc, guest, cut, secrets, limits, book)?;
+    let table = CutTable::new(alloc, cut)?;
+    let task = lent_task(guest, cut, &table, limits);
+    let lines = lines_of(alloc, &task, secrets, book)?;
     let counts = counts_line(alloc, "clean", secrets.len(), lines.clean, limits.budget)?;
     let status = status_of(lines.clean, secrets.len());
     let mut text = lines.text;

@@ -5,7 +5,6 @@ ghost use Rattle.cut_file.specs.Pictures.{cut_picture};
 ghost use Rattle.lockstep_replay.specs.Judgements.{judgement_of};
 ghost use Rattle.lockstep_replay.specs.LentTasks.{limits_in as lent_limits, task_in};
 ghost use Rattle.lockstep_replay.specs.Verdicts.{First};
-ghost use Rattle.replay_machine.specs.Visits.{SameAhead};
 ghost use Rattle.command_tasks.specs.ReadTasks.{AreShort, IsBoundedCheck, check_in, guest_in};
 ghost use Rattle.task_answers.specs.Private.JudgedLimits.{limits_in};
 ghost use Rattle.task_answers.specs.Checks.{AnswersCheck, check_reply, judged_by, judgements_of};
@@ -13,6 +12,7 @@ ghost use Rattle.task_answers.specs.Texts.{accepted_count, verdict_lines};
 
 use crate::books::book_of;
 use crate::finding::find_secrets;
+use crate::lent_tasks::lent_task;
 use crate::limits::Limits;
 use crate::replies::Reply;
 use crate::texts::{counts_line, status_of};
@@ -25,28 +25,6 @@ use lockstep_replay::{LentTask, Lockstep, Memories, Verdict};
 use replay_machine::CutTable;
 use std::alloc::Global;
 use transfer_rules::RuleBook;
-
-/// What the secrets of a guest are judged by, lent to each of them.
-fn lent_task<'c>(
-    guest: &'c Guest<'c>,
-    cut: &'c Cut,
-    table: &'c CutTable,
-    limits: Limits,
-) -> LentTask<'c>
-    requires { SameAhead table.now cut.now.points }
-    ensures task { task_in result ≡ judged_by (guest_in guest.now) (cut_picture cut.now) }
-    ensures limits { lent_limits result ≡ limits_in limits }
-{
-    LentTask {
-        image: &guest.image,
-        public: guest.public_input,
-        regions: &guest.regions,
-        cut,
-        table,
-        budget: limits.budget,
-        turns: limits.turns,
-    }
-}
 
 /// The verdict on a secret, in the guest memories of another one, and these for the next one.
 fn judge_in(

@@ -9,6 +9,7 @@ mod bounding;
 mod finding;
 mod judging;
 mod learning;
+mod lent_tasks;
 mod limits;
 mod many;
 mod measured_runs;

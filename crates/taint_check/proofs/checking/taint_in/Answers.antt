@@ -6,6 +6,7 @@ use Rattle.elf32_loader.specs.Images.{image_picture}
 use Rattle.elf32_loader.specs.Pictures.{Picture}
 use Rattle.enclosure_regions.specs.declared.region_parts.Region.{Region}
 use Rattle.acceptance_law.specs.MeasuredLaws.{AreInputs}
+use Rattle.lockstep_replay.specs.LentTasks.{limits_in}
 use Rattle.lockstep_replay.specs.Tasks.{Limits, task_of}
 use Rattle.taint_check.specs.Laws.{IsAcceptedIfClean}
 use Rattle.taint_check.specs.Tainted.{Finding, IsClean, IsUnclear, IsVerdict, finding_of}
@@ -23,8 +24,7 @@ accepted table program public_input regions secret cut limits (IsUnclear why) in
 pub returns-clause-accepted : goal.returns-clause-accepted
 returns-clause-accepted g c =
     IfOk-weaker c.checked.result _ _
-    (λ made is. accepted c.args.book.now.table (image_picture c.args.image.now) c.args.public.now
-    c.args.regions.now.items c.args.secret.now (cut_picture c.args.cut.now)
-    (record { budget = c.args.budget; turns = c.args.turns }) (finding_of made.0) c.tell_inputs.ensures
-    c.tell_cut.ensures is)
+    (λ made is. accepted c.args.book.now.table (image_picture c.args.task.now.image.now) c.args.task.now.public.now
+    c.args.task.now.regions.now.items c.args.secret.now (cut_picture c.args.task.now.cut.now)
+    (limits_in c.args.task.now) (finding_of made.0) c.tell_inputs.ensures c.tell_cut.ensures is)
     c.checked.ensures

@@ -2,11 +2,8 @@ use Rattle.std.proofs.Common.{◌∷◌, ◌+◌, [], List, refl, sym, subst, ar
 use Rattle.std.proofs.Math.ListN.{drop_of_length-le}
 use Rattle.std.proofs.lemmas.Grind.{common_steps}
 use Rattle.std.proofs.lemmas.List.{drop_more}
-use Rattle.cut_file.specs.Pictures.{cut_picture}
+use Rattle.lockstep_replay.specs.LentTasks.{limits_in, task_in}
 use Rattle.taint_check.specs.Tainted.{Finding, finding_of}
-use Rattle.command_tasks.specs.ReadTasks.{guest_in}
-use Rattle.task_answers.specs.Private.JudgedLimits.{limits_in}
-use Rattle.task_answers.specs.Checks.{judged_by}
 use Rattle.task_answers.specs.Findings.{AreFindings}
 use Rattle.task_answers.proofs.FindingLines.{all_findings, next_finding}
 use Rattle.task_answers.proofs.finding.lines_of.Goals as goal
@@ -15,8 +12,8 @@ pub loop-place-preserved : goal.loop-place-preserved
 loop-place-preserved g c =
     let l = c.loop-place in
     let table = c.args.book.now.table in
-    let judged = judged_by (guest_in c.args.guest.now) (cut_picture c.args.cut.now) in
-    let limits = limits_in c.args.limits in
+    let judged = task_in c.args.task.now in
+    let limits = limits_in c.args.task.now in
     let secrets = c.args.secrets.now in
     let finding : Finding = finding_of c.in_ok-verdict.verdict in
     record {
@@ -35,8 +32,8 @@ pub returns : goal.returns
 returns g c =
     let l = c.loop-place in
     let table = c.args.book.now.table in
-    let judged = judged_by (guest_in c.args.guest.now) (cut_picture c.args.cut.now) in
-    let limits = limits_in c.args.limits in
+    let judged = task_in c.args.task.now in
+    let limits = limits_in c.args.task.now in
     let none = drop_of_length-le c.args.secrets.now {i = l.place} (omega (arith, c.loop-place-test.false)) in
     all_findings table judged limits c.args.secrets.now l.text.items l.place l.clean
     (l.invariant.found [] (subst (λ (ss : List _). AreFindings table judged limits ss []) (sym none) tt))

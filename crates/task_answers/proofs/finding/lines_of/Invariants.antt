@@ -1,9 +1,6 @@
 use Rattle.std.proofs.Common.{◌≡◌, ◌≤◌, ◌+◌, ◌++◌, List, drop}
-use Rattle.cut_file.specs.Pictures.{cut_picture}
+use Rattle.lockstep_replay.specs.LentTasks.{limits_in, task_in}
 use Rattle.taint_check.specs.Tainted.{Finding}
-use Rattle.command_tasks.specs.ReadTasks.{guest_in}
-use Rattle.task_answers.specs.Private.JudgedLimits.{limits_in}
-use Rattle.task_answers.specs.Checks.{judged_by}
 use Rattle.task_answers.specs.Findings.{AreFindings}
 use Rattle.task_answers.specs.Texts.{clean_count, finding_lines}
 use Rattle.task_answers.proofs.finding.lines_of.Given as goal
@@ -14,10 +11,10 @@ invariant-loop-place g l = record {
   -- with any findings of the secrets that are left there are findings of all
   found :
       (rest : List Finding) →
-      AreFindings l.book.table (judged_by (guest_in l.guest) (cut_picture l.cut)) (limits_in l.limits)
+      AreFindings l.book.table (task_in l.task) (limits_in l.task)
       (drop l.place l.secrets) rest →
       (findings : List Finding)
-      × AreFindings l.book.table (judged_by (guest_in l.guest) (cut_picture l.cut)) (limits_in l.limits) l.secrets findings
+      × AreFindings l.book.table (task_in l.task) (limits_in l.task) l.secrets findings
       × (l.text.items ++ finding_lines (l.place + 1) rest ≡ finding_lines 1 findings)
       × (l.clean + clean_count rest ≡ clean_count findings);
 }
