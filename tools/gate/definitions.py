@@ -1,5 +1,5 @@
 #!/usr/bin/env python3
-"""definitions.py NAME .. [--list | --read]
+"""definitions.py NAME .. [--list | --read] [--whole]
 definitions.py --unreached
 
 Prints on how many definitions of specs/ a statement stands, in how many files, and how many lines these have, and the
@@ -15,8 +15,9 @@ are left out, and so is what std and the kit define. Each record, data type and 
 variant is a part; a type of src/ counts where specs.declared names it, or a field of a type that counts. A definition
 does not count itself. Lines are those of signature and body, comments inside with them and the one above left out.
 
-A definition under a comment `-- read in its place: PATH` is known by that statement, which a clause of a public function
-proves of it: its signature is one line, and in place of its body the statement is read.
+A definition under a comment `-- read in its place: PATH` is known by that statement, which a clause of a public
+function proves of it: its signature is one line, and in place of its body the statement is read. With `--whole` the
+body counts and what it stands on.
 
 With `--unreached` it lists instead the files of definitions on which no public contract of any crate stands, but for
 those in a folder specs/Private/, and the files in such a folder on which one does; the status is 1 where there is any.
@@ -270,11 +271,12 @@ def main():
     parser.add_argument("names", nargs="*", metavar="NAME")
     parser.add_argument("--list", action="store_true")
     parser.add_argument("--read", action="store_true")
+    parser.add_argument("--whole", action="store_true")
     parser.add_argument("--unreached", action="store_true")
     words = parser.parse_args()
     if bool(words.names) == words.unreached or words.list and words.unreached:
         parser.error("it takes names, or --unreached alone")
-    crates = Crates(in_place=not words.unreached)
+    crates = Crates(in_place=not words.unreached and not words.whole)
     if words.unreached:
         found = list(crates.misplaced())
         print("".join(f"{wrong}: {path}\n" for path, wrong in found), end="")

@@ -67,7 +67,7 @@ def scripts():
 
 def contract():
     """The files of the definitions and types on which the contract of the call stands."""
-    words = [sys.executable, os.path.join(TOP, "tools", "gate", "definitions.py"), "--list", CALL]
+    words = [sys.executable, os.path.join(TOP, "tools", "gate", "definitions.py"), "--list", "--whole", CALL]
     done = subprocess.run(words, cwd=TOP, capture_output=True, text=True, check=False)
     found = set(re.findall(r"(?m)^ *\d+  (crates/\S+)  ", done.stdout))
     if done.returncode or not found:
