@@ -3,9 +3,9 @@
 Call: build.py [--look]
 
 The gate, .ci/run, builds the program too: after it there is nothing to do. Else each crate on which the program stands
-and that was not proved here is proved, several side by side, by `rt all check`; then `rt run` builds the program. A line
-is printed for each crate that is done, with the minutes since it began. What `rt` says goes into build.log beside the
-program. What the gate has kept elsewhere on the machine is not taken.
+and that was not proved here is proved, several side by side, by `rt all check`; then `rt run` builds the program. A
+line is printed for each crate that is done, with the minutes since it began. What `rt` says goes into build.log beside
+the program. What the gate has kept elsewhere on the machine is not taken.
 
   --look   says what would be done, and does nothing
 
