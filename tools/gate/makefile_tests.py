@@ -27,6 +27,7 @@ UTIL = """
 int parity(int x) { int p = 0; for (int i = 0; i < 8; i++) p ^= x >> i & 1; return p; }
 """
 OWN = '#ifdef __cplusplus\nextern "C"\n#endif\nint parity(int x);\n'
+OF_ONE_RUN = "note: the number is of this one run. "
 
 
 class MakefileTests(Expectations):
@@ -61,13 +62,14 @@ class MakefileTests(Expectations):
         self.made("numbers", ["mine.report", "OPTIONS=--turns 5"], 1, "refused 4 turns 5", folder=folder)
 
     def test_notes(self):
-        """What may mislead is told, and nothing where nothing does."""
+        """What may mislead is told, and where nothing does only that a measured number is of one run."""
         folder = self.put("notes", mine_c=BIT % ("", "s & 1"), mine_secret="a", mine_public="")
         self.put("notes", none_c=BIT % ("", "0"), none_secret="abc", none_public="")
         for target in ("cut", "report", "html"):
             self.made("notes", [f"none.{target}"], 0, "read 1 of 3 bytes", "number is 0", folder=folder)
             _, _, error = self.make(f"mine.{target}", folder=folder)
-            self.expect(f"notes: mine.{target}", error == "", error)
+            is_told = error.startswith(OF_ONE_RUN) and error.count("\n") == 1
+            self.expect(f"notes: mine.{target}", is_told if target == "cut" else error == "", error)
 
     def test_compilers(self):
         """A compiler that is not known, or not there, is told in a clear sentence."""
