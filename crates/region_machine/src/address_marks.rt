@@ -61,4 +61,41 @@ impl AddressMarks {
     {
         self.set[(address / 4) as usize % MARKS]
     }
+
+    /// The marks, lent.
+    #[inline(always)]
+    pub fn lend(&self) -> LentMarks<'_>
+        ensures { result ≡ self.now }
+    {
+        LentMarks {
+            set: self.set.as_slice(),
+        }
+    }
+}
+
+/// Marks of addresses that are lent: whoever keeps them looks at a mark without a step by way of their owner. Contracts
+/// see them as the marks.
+#[derive(Drop)]
+pub struct LentMarks<'m> {
+    set: &'m [bool],
+}
+
+impl<'m> Model for LentMarks<'m> {
+    ghost use Rattle.std.specs.Prelude.{◌≡◌, Bool, List as Seq, length};
+
+    ghost Value = { Seq Bool };
+
+    ghost view = { λ m. m.set.now };
+
+    ghost invariant = { λ m. length m.set.now ≡ 65536 };
+}
+
+impl LentMarks<'_> {
+    /// Whether an address may have been marked: true for each that was.
+    #[inline(always)]
+    pub fn may_have(&self, address: u32) -> bool
+        ensures { result ≡ has_mark self.now address }
+    {
+        self.set[(address / 4) as usize % MARKS]
+    }
 }

@@ -19,7 +19,7 @@ mod pairs;
 mod real_turns;
 mod skipping;
 
-pub use address_marks::AddressMarks;
+pub use address_marks::{AddressMarks, LentMarks};
 pub use entering::enter_by;
 pub use kinds::{GuestTurn, guest_turn};
 pub use laws::{each_of_a_pair_is_handed_the_turn, monitors_tell_the_next_turn};

@@ -13,7 +13,7 @@ use crate::equality::are_same_points;
 use crate::search::find;
 use cut_file::{Cut, CutPoint};
 use flow_base::{NoMemory, Point};
-use region_machine::AddressMarks;
+use region_machine::{AddressMarks, LentMarks};
 use std::alloc::Global;
 use std::marker::Model;
 
@@ -113,12 +113,11 @@ impl CutTable {
         Ok(copy)
     }
 
-    /// Whether the cut may have a point with this address. At most addresses of which it has none it is told.
-    #[inline(always)]
-    pub fn is_marked(&self, address: u32) -> bool
-        ensures { result ≡ false → (point : ThePoint) → point.address ≡ address → index_of self.now point ≡ None }
+    /// The marks of the addresses that the points have.
+    pub(crate) fn marks(&self) -> LentMarks<'_>
+        ensures { IsTrue (list_all (is_marked result) self.now) }
     {
-        self.marks.may_have(address)
+        self.marks.lend()
     }
 
     /// Whether the points are the same.
@@ -128,28 +127,10 @@ impl CutTable {
         are_same_points(self.points.as_slice(), other.points.as_slice())
     }
 
-    /// The mask at the next visit of a point, 0 where the cut does not name the point; that visit is then past. At an
-    /// address that no point of the cut has, it is mostly found by one look, and else in the logarithm of the number of
-    /// the cut's points. It takes no memory.
+    /// The mask at the next visit of a point, 0 where the cut does not name the point; that visit is then past. The
+    /// point is handed on as a copy, so that no visit at another address needs to keep one in memory. It takes no memory.
     #[inline(always)]
     pub(crate) fn pass(&self, cursors: &mut Vec<Cursor>, point: Point) -> u32
-        requires length { vec_len cursors.old ≡ length self.now }
-        requires slot { IsTrue (is_slot point.slot) }
-        ensures mask { result ≡ MaskAt (all_ahead self.now cursors.old.items) point 1 }
-        ensures width { result ≤ width_of point.slot }
-        ensures moves { MovesOn point (all_ahead self.now cursors.old.items) (all_ahead self.now cursors.new.items) }
-        ensures length { vec_len cursors.new ≡ vec_len cursors.old }
-    {
-        if !self.is_marked(point.address) {
-            return 0;
-        }
-        self.pass_marked(cursors, point)
-    }
-
-    /// The same at an address that has a mark. The point is handed on as a copy, so that no other visit needs to keep
-    /// one in memory.
-    #[inline(always)]
-    fn pass_marked(&self, cursors: &mut Vec<Cursor>, point: Point) -> u32
         requires length { vec_len cursors.old ≡ length self.now }
         requires slot { IsTrue (is_slot point.slot) }
         ensures mask { result ≡ MaskAt (all_ahead self.now cursors.old.items) point 1 }
@@ -172,7 +153,7 @@ impl CutTable {
         )
     }
 
-    /// The same, the point sought by halves.
+    /// The same, in the logarithm of the number of the points.
     #[cold]
     #[inline(never)]
     fn pass_found(&self, cursors: &mut Vec<Cursor>, point: Point) -> u32
