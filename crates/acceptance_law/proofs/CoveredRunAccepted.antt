@@ -19,7 +19,7 @@ use Rattle.lockstep_replay.specs.Acceptance.{HasExited, EndAlike, SameMark}
 use Rattle.lockstep_replay.specs.Crossing.{cross_after}
 use Rattle.run_labels.specs.Runs.{run_after, stopped_fault}
 use Rattle.acceptance_law.specs.Sides.{NamedSide}
-use Rattle.acceptance_law.specs.Proper.{AreBytes, IsProperGuest}
+use Rattle.acceptance_law.specs.Inputs.{AreBytes, IsProperGuest}
 use Rattle.acceptance_law.specs.ProperLaws.{ProperTurnsLaw}
 use Rattle.acceptance_law.proofs.StepsKeepStanding.{state_of, placed, SkipsRelays}
 use Rattle.acceptance_law.proofs.RunsBegin.{begins_beside}

@@ -22,7 +22,7 @@ use Rattle.run_labels.specs.Masks.{masks_of, work_mask, mask_of, answers_after, 
 use Rattle.run_labels.specs.Flowing.{flow_events, passing_events, sources_events, aim_events}
 use Rattle.run_labels.specs.Traces.{traced, events_in}
 use Rattle.acceptance_law.specs.RunCuts.{is_inner, is_instruction_slot, mask_at_event, visit_masks}
-use Rattle.acceptance_law.specs.Proper.{AreBytes, IsProper}
+use Rattle.acceptance_law.specs.Inputs.{AreBytes, IsProper}
 use Rattle.acceptance_law.proofs.GraphEvents.{all_append, all_more}
 use Rattle.acceptance_law.proofs.Passings.{made_fits, slot_word}
 use Rattle.acceptance_law.proofs.ProperTurns.{HasLimits, limits_put, moved-value, inner_slot}

@@ -49,7 +49,7 @@ use Rattle.max_flow.specs.declared.answers.Half.{Half}
 use Rattle.max_flow.specs.Flows.{IsSideOf, side_capacity}
 use Rattle.replay_machine.specs.Runs.{Masks}
 use Rattle.acceptance_law.specs.GraphLaws.{split_bits}
-use Rattle.acceptance_law.specs.Proper.{IsProperGuest}
+use Rattle.acceptance_law.specs.Inputs.{IsProperGuest}
 use Rattle.acceptance_law.proofs.CutBits.{CountsOutside, counts_inner, turn-crosses}
 use Rattle.acceptance_law.proofs.CutVisits.{IsLike, like_itself}
 use Rattle.acceptance_law.proofs.CutInner.{AreInnerEvents, turn-inner}

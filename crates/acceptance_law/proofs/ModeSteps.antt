@@ -24,7 +24,7 @@ use Rattle.run_labels.specs.Traces.{labels_in}
 use Rattle.run_labels.specs.Runs.{stopped_fault, entered_number}
 use Rattle.run_labels.specs.TurnLabels.{at_start}
 use Rattle.acceptance_law.specs.Sides.{NamedSide}
-use Rattle.acceptance_law.specs.Proper.{AreBytes}
+use Rattle.acceptance_law.specs.Inputs.{AreBytes}
 use Rattle.acceptance_law.specs.ProperLaws.{ProperTurnsLaw}
 use Rattle.acceptance_law.proofs.TurnsKeepRelation.{CoveredTurn}
 use Rattle.acceptance_law.proofs.StepsKeepStanding.{state_of, placed, Stood, SkipsRelays, step_stands}

@@ -17,7 +17,7 @@ use Rattle.rv32im_machine.specs.Language.{Turn, Gives, Held, at_place, put, hold
 use Rattle.shadow_masks.specs.declared.labels.Label.{Label}
 use Rattle.run_labels.specs.TurnLabels.{TurnLabels, label_at, put_label}
 use Rattle.acceptance_law.specs.Sides.{NamedSide}
-use Rattle.acceptance_law.specs.Proper.{IsProperPlace}
+use Rattle.acceptance_law.specs.Inputs.{IsProperPlace}
 use Rattle.acceptance_law.proofs.WritesKeepRelation.{Close, set_hit, not_alike, apart_of}
 
 -- ---- the outputs of a region as a list

@@ -31,14 +31,14 @@ use Rattle.run_labels.specs.TurnLabels.{TurnLabels, label_at}
 use Rattle.run_labels.specs.Masks.{source_mask, byte_mask, masks_of, work_mask, answered_mask}
 use Rattle.run_labels.specs.Flowing.{link_from, source_events, byte_events, sources_events}
 use Rattle.run_labels.specs.Answers.{IsSoundAnswer, HoldsOfAnswer, operands_of}
-use Rattle.transfer_rules.specs.Operations.{OfWords, OfBranch}
+use Rattle.transfer_rules.specs.Rules.{OfWords, OfBranch}
 use Rattle.transfer_rules.proofs.Instructions.{agree_cleared}
 use Rattle.flow_graph.specs.declared.events.Event.{Event}
 use Rattle.flow_graph.specs.declared.events.Event.TheVariants.{Link}
 use Rattle.acceptance_law.specs.Sides.{NamedSide}
 use Rattle.acceptance_law.specs.ClosedEvents.{AreClosedEvents}
-use Rattle.acceptance_law.specs.Proper.{AreBytes, IsProperSource, AreProperSources, place_limit, source_limit, FitsShape, FitsSlot}
-use Rattle.acceptance_law.specs.Proper.{AreOperands, operation_limit}
+use Rattle.acceptance_law.specs.Inputs.{AreBytes, IsProperSource, AreProperSources, place_limit, source_limit, FitsShape, FitsSlot}
+use Rattle.acceptance_law.specs.Inputs.{AreOperands, operation_limit}
 use Rattle.acceptance_law.proofs.AgreeOutsideMask.{agree_refl, agree_width, patched_below_width}
 use Rattle.acceptance_law.proofs.WritesKeepRelation.{Close, close_equal, Beside}
 use Rattle.acceptance_law.proofs.ShapesAgree.{AgreeAll, BytesBelow, shaped_agree}

@@ -53,7 +53,7 @@ use Rattle.rv32im_machine.specs.Calls.{kind_row, call_row, public_plan, secret_p
 use Rattle.rv32im_machine.specs.Calls.{break_plan, write_checked}
 use Rattle.rv32im_machine.specs.Rows.{load_checked, loaded_from, store_at, store_checked, jumps, links, branches, row}
 use Rattle.rv32im_machine.specs.Rows.{fetched, running, stops, first_used, second_used, addressed}
-use Rattle.acceptance_law.specs.Proper.{AreBytes, IsPassing, AreProperSources, AreOperands, operation_limit, IsProper}
+use Rattle.acceptance_law.specs.Inputs.{AreBytes, IsPassing, AreProperSources, AreOperands, operation_limit, IsProper}
 use Rattle.acceptance_law.specs.ProperLaws.{ProperTurnsLaw}
 use Rattle.acceptance_law.proofs.InsideMemory.{inside_begins}
 use Rattle.acceptance_law.proofs.ProperValues.{computed_fits, part_fits, byte_fits, half_fits, whole_fits}

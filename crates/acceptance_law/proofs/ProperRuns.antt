@@ -30,7 +30,7 @@ use Rattle.run_labels.specs.TurnLabels.{at_start}
 use Rattle.run_labels.specs.Runs.{LabelledRun, enclosing, unlabelled, run_after, turn_events, EachRunAnswer}
 use Rattle.shadow_masks.specs.Writes.{LabelMap, default_map}
 use Rattle.acceptance_law.specs.ClosedEvents.{IsProperEvent, AreProperEvents}
-use Rattle.acceptance_law.specs.Proper.{IsProperGuest, place_limit}
+use Rattle.acceptance_law.specs.Inputs.{IsProperGuest, place_limit}
 use Rattle.acceptance_law.specs.GuestLaws.{GuestTurnLaw, ProperEventsLaw}
 use Rattle.acceptance_law.proofs.GraphEvents.{all_append}
 use Rattle.acceptance_law.proofs.ProperRows.{proper_law}

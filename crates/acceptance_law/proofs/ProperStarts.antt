@@ -9,7 +9,7 @@ use Rattle.elf32_loader.specs.Pictures.{Picture}
 use Rattle.elf32_loader.specs.Segments.{are_inside, is_ascending, is_base_of, is_entry, holds_segment, end_of, highest_end}
 use Rattle.elf32_loader.specs.Segments.{highest_base}
 use Rattle.rv32im_machine.specs.Start.{zeros, laid_at, laid, first_memory, first_registers, top_of, first_break}
-use Rattle.acceptance_law.specs.Proper.{AreAllWords, AreBytes}
+use Rattle.acceptance_law.specs.Inputs.{AreAllWords, AreBytes}
 use Rattle.acceptance_law.specs.GuestLaws.{GuestStartLaw, HasBytes}
 
 -- ---- lists of bounded numbers

@@ -38,7 +38,7 @@ use Rattle.run_labels.specs.Flowing.{passing_events}
 use Rattle.run_labels.specs.Traces.{traced, labels_in, events_in, EachAnswer}
 use Rattle.run_labels.specs.Answers.{IsSoundAnswer}
 use Rattle.acceptance_law.specs.ClosedEvents.{IsProperEvent, AreProperEvents}
-use Rattle.acceptance_law.specs.Proper.{AreAllWords, AreBytes, IsProperGuest, IsMove, AreProperSources, FitsSlot, IsProper, place_limit}
+use Rattle.acceptance_law.specs.Inputs.{AreAllWords, AreBytes, IsProperGuest, IsMove, AreProperSources, FitsSlot, IsProper, place_limit}
 use Rattle.acceptance_law.proofs.WritesKeepRelation.{put_limits, put_label_limits, put_kept, put_label_kept}
 use Rattle.acceptance_law.proofs.Passings.{made_fits, mask_fits, slot_word}
 use Rattle.acceptance_law.proofs.Turns.{label_of_limit, seen_word}

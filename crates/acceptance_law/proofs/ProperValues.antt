@@ -25,7 +25,7 @@ use Rattle.rv32im_machine.specs.State.{joined}
 use Rattle.transfer_rules.proofs.Results.{div_fits, divu_fits, mulh_fits, mulhsu_fits, mulhu_fits, rem_fits, remu_fits}
 use Rattle.transfer_rules.proofs.Results.{truth_fits}
 use Rattle.transfer_rules.proofs.Shifts.{left_fits, right_fits, signed_fits}
-use Rattle.acceptance_law.specs.Proper.{operation_limit}
+use Rattle.acceptance_law.specs.Inputs.{operation_limit}
 
 -- ---- the immediates of instructions, as words
 

@@ -38,7 +38,7 @@ use Rattle.acceptance_law.specs.Sides.{NamedSide, is_split}
 use Rattle.acceptance_law.specs.ClosedEvents.{AreClosedEvents}
 use Rattle.acceptance_law.specs.Covers.{IsMaskWithin, IsContained, AreContained}
 use Rattle.acceptance_law.specs.RunCuts.{is_inner, is_instruction_slot}
-use Rattle.acceptance_law.specs.Proper.{IsProperPlace, place_limit}
+use Rattle.acceptance_law.specs.Inputs.{IsProperPlace, place_limit}
 use Rattle.acceptance_law.proofs.WritesKeepRelation.{close_label_of, Beside, put_limits, put_label_limits, put_registers}
 use Rattle.acceptance_law.proofs.WritesKeepRelation.{put_memory, put_kept, fresh_beside}
 use Rattle.acceptance_law.proofs.Passings.{slot_word, slot_agree, link_equal, patched_slot, closed_append}

@@ -24,7 +24,7 @@ use Rattle.shadow_masks.specs.Writes.{LabelMap, after, Save}
 use Rattle.run_labels.specs.TurnLabels.{label_at, at_start}
 use Rattle.run_labels.specs.Traces.{labels_in}
 use Rattle.acceptance_law.specs.Sides.{NamedSide}
-use Rattle.acceptance_law.specs.Proper.{IsProperPlace, place_limit}
+use Rattle.acceptance_law.specs.Inputs.{IsProperPlace, place_limit}
 use Rattle.acceptance_law.proofs.WritesKeepRelation.{Close, Beside, put_kept}
 use Rattle.acceptance_law.proofs.Turns.{SameCounts}
 use Rattle.acceptance_law.proofs.TurnsKeepRelation.{CoveredTurn, KeptTurn}

@@ -9,7 +9,7 @@ use Rattle.region_machine.specs.Enclosures.{region_numbered}
 use Rattle.shadow_masks.specs.Writes.{default_map}
 use Rattle.run_labels.specs.TurnLabels.{at_start, label_at}
 use Rattle.acceptance_law.specs.Sides.{NamedSide}
-use Rattle.acceptance_law.specs.Proper.{IsProperGuest, IsProperPlace, place_limit}
+use Rattle.acceptance_law.specs.Inputs.{IsProperGuest, IsProperPlace, place_limit}
 use Rattle.acceptance_law.proofs.StepsKeepStanding.{Stands}
 use Rattle.acceptance_law.proofs.WritesKeepRelation.{Close, close_refl}
 use Rattle.flow_base.specs.Listed.{is_listed}

@@ -25,7 +25,7 @@ use Rattle.shadow_masks.specs.Writes.{LabelMap, after, Save}
 use Rattle.run_labels.specs.TurnLabels.{label_at, at_start}
 use Rattle.run_labels.specs.Traces.{labels_in, EachAnswer}
 use Rattle.acceptance_law.specs.Sides.{NamedSide}
-use Rattle.acceptance_law.specs.Proper.{AreBytes, IsProperGuest, place_limit}
+use Rattle.acceptance_law.specs.Inputs.{AreBytes, IsProperGuest, place_limit}
 use Rattle.acceptance_law.specs.ProperLaws.{ProperTurnsLaw}
 use Rattle.acceptance_law.proofs.WritesKeepRelation.{Beside}
 use Rattle.acceptance_law.proofs.Turns.{SameCounts}

@@ -18,7 +18,7 @@ use Rattle.rv32im_machine.specs.State.{Setting, Control, Store, moved_to, with_r
 use Rattle.rv32im_machine.specs.Language.{Turn, Ends, Moves, walked, Held, none_held, at_place, put, hold}
 use Rattle.region_machine.specs.Guests.{gives, clears_registers, clears_bytes, clears_ranges, skip}
 use Rattle.replay_machine.specs.Runs.{Masks, replayed}
-use Rattle.acceptance_law.specs.Proper.{IsProperPlace, place_limit}
+use Rattle.acceptance_law.specs.Inputs.{IsProperPlace, place_limit}
 use Rattle.acceptance_law.proofs.WritesKeepRelation.{put_limits, put_registers, put_memory, put_kept, not_alike, apart_of}
 use Rattle.acceptance_law.proofs.Outputs.{Output, OfRegister, OfByte, output_place, IsOutput, AreOutputs, IsAmong, given}
 use Rattle.acceptance_law.proofs.RegionOutputsPass.{gives_given, outputs_of, register_outputs, byte_outputs}

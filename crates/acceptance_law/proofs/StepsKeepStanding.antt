@@ -24,7 +24,7 @@ use Rattle.shadow_masks.specs.Writes.{LabelMap}
 use Rattle.run_labels.specs.TurnLabels.{at_start}
 use Rattle.run_labels.specs.Traces.{labels_in}
 use Rattle.acceptance_law.specs.Sides.{NamedSide}
-use Rattle.acceptance_law.specs.Proper.{AreBytes, IsProperGuest, IsProper}
+use Rattle.acceptance_law.specs.Inputs.{AreBytes, IsProperGuest, IsProper}
 use Rattle.acceptance_law.specs.ProperLaws.{ProperTurnsLaw}
 use Rattle.acceptance_law.proofs.WritesKeepRelation.{Close, Beside}
 use Rattle.acceptance_law.proofs.Turns.{SameCounts}

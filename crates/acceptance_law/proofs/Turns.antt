@@ -43,7 +43,7 @@ use Rattle.acceptance_law.specs.Sides.{NamedSide, is_split}
 use Rattle.acceptance_law.specs.ClosedEvents.{AreClosedEvents}
 use Rattle.acceptance_law.specs.Covers.{IsMaskWithin, AreContained, past_after}
 use Rattle.acceptance_law.specs.RunCuts.{is_inner}
-use Rattle.acceptance_law.specs.Proper.{place_limit, IsLook}
+use Rattle.acceptance_law.specs.Inputs.{place_limit, IsLook}
 use Rattle.acceptance_law.proofs.AgreeOutsideMask.{agree_zero, patched_agrees, patched_covers, patched_same}
 use Rattle.acceptance_law.proofs.WritesKeepRelation.{close_equal, Beside}
 use Rattle.flow_base.specs.Listed.{is_listed}

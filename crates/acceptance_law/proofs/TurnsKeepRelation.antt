@@ -36,7 +36,7 @@ use Rattle.acceptance_law.specs.Sides.{NamedSide, is_split}
 use Rattle.acceptance_law.specs.ClosedEvents.{AreClosedEvents, Stays, ends_in}
 use Rattle.acceptance_law.specs.Covers.{IsMaskWithin, IsContained, AreContained}
 use Rattle.acceptance_law.specs.RunCuts.{is_inner}
-use Rattle.acceptance_law.specs.Proper.{AreBytes, place_limit, IsPassing, FitsPlace, IsMove, IsProper}
+use Rattle.acceptance_law.specs.Inputs.{AreBytes, place_limit, IsPassing, FitsPlace, IsMove, IsProper}
 use Rattle.acceptance_law.proofs.WritesKeepRelation.{Close, close_refl, close_label_of, Beside, put_beside, put_kept}
 use Rattle.acceptance_law.proofs.WritesKeepRelation.{fresh_beside}
 use Rattle.acceptance_law.proofs.ShapesAgree.{AgreeAll, BytesBelow, shaped_agree}

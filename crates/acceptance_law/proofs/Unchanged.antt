@@ -33,7 +33,7 @@ use Rattle.run_labels.specs.Answers.{IsSoundAnswer}
 use Rattle.run_labels.specs.Traces.{traced, EachAnswer, labels_in}
 use Rattle.run_labels.specs.Masks.{masks_of, work_mask, answers_after, moved_label}
 use Rattle.shadow_masks.specs.Pages.{label_of}
-use Rattle.acceptance_law.specs.Proper.{AreBytes, IsProperPlace, place_limit, IsProper, IsMove}
+use Rattle.acceptance_law.specs.Inputs.{AreBytes, IsProperPlace, place_limit, IsProper, IsMove}
 use Rattle.acceptance_law.proofs.WritesKeepRelation.{put_limits, put_label_limits, put_registers, put_memory, put_kept}
 use Rattle.acceptance_law.proofs.WritesKeepRelation.{put_label_kept, not_alike, apart_of}
 use Rattle.acceptance_law.proofs.Passings.{slot_word, made_fits, mask_fits}

@@ -15,7 +15,7 @@ use Rattle.shadow_masks.specs.Labels.{clean}
 use Rattle.shadow_masks.specs.Pages.{label_of}
 use Rattle.run_labels.specs.TurnLabels.{TurnLabels, label_at, put_label, at_start}
 use Rattle.acceptance_law.specs.Sides.{NamedSide}
-use Rattle.acceptance_law.specs.Proper.{IsProperPlace, place_limit}
+use Rattle.acceptance_law.specs.Inputs.{IsProperPlace, place_limit}
 use Rattle.acceptance_law.proofs.AgreeOutsideMask.{agree_refl, agree_zero}
 
 -- two values agree outside a label's mask, and are equal where the second half of its point is outside the side

@@ -13,7 +13,7 @@ use Rattle.run_labels.specs.Runs.{unlabelled, run_after, EachRunAnswer}
 use Rattle.rv32im_machine.specs.Folds.{real_end}
 use Rattle.rv32im_machine.specs.State.{State}
 use Rattle.acceptance_law.specs.ClosedEvents.{AreProperEvents}
-use Rattle.acceptance_law.specs.Proper.{AreBytes, IsProperGuest}
+use Rattle.acceptance_law.specs.Inputs.{AreBytes, IsProperGuest}
 
 -- each turn keeps what a guest's values are like
 abbrev pub GuestTurnLaw : Type 0

@@ -14,7 +14,7 @@ use Rattle.run_labels.specs.Runs.{unlabelled, run_after, EachRunAnswer, IsUnrefu
 use Rattle.std.specs.Prelude.{true}
 use Rattle.acceptance_law.specs.Sides.{NamedSide}
 use Rattle.acceptance_law.specs.Covers.{Covers}
-use Rattle.acceptance_law.specs.Proper.{IsProperGuest}
+use Rattle.acceptance_law.specs.Inputs.{IsProperGuest}
 
 -- a run that no turn refuses, by sound answers, and that has exited with this output
 pub record IsMeasuredRun (regions : List Region) (answers : List (List ℕ)) (start : Place) (output : Output) : Type 0 where

@@ -5,7 +5,7 @@ pub mod GraphLaws
 pub mod SecretBits
 pub mod VisitLaws
 pub mod Covers
-pub mod Proper
+pub mod Inputs
 pub mod ProperLaws
 pub mod Laws
 pub mod SecretSides

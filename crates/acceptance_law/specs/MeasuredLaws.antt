@@ -15,7 +15,7 @@ use Rattle.region_machine.specs.Starts.{guest}
 use Rattle.run_labels.specs.Answers.{IsSoundAnswer}
 use Rattle.run_labels.specs.Runs.{LabelledRun, unlabelled, run_after, EachRunAnswer, IsUnrefused}
 use Rattle.acceptance_law.specs.GuestLaws.{HasBytes}
-use Rattle.acceptance_law.specs.Proper.{AreBytes}
+use Rattle.acceptance_law.specs.Inputs.{AreBytes}
 use Rattle.acceptance_law.specs.RunCuts.{IsCutOf}
 use Rattle.acceptance_law.specs.Sides.{named_side}
 

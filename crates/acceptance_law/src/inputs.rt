@@ -4,7 +4,7 @@
 ghost use Rattle.std.specs.Prelude.{◌≡◌, true};
 ghost use Rattle.acceptance_law.specs.GuestLaws.{HasBytes};
 ghost use Rattle.acceptance_law.specs.MeasuredLaws.{AreInputs};
-ghost use Rattle.acceptance_law.specs.Proper.{AreBytes};
+ghost use Rattle.acceptance_law.specs.Inputs.{AreBytes};
 ghost use Rattle.cut_file.specs.Cuts.{is_cut_picture};
 ghost use Rattle.cut_file.specs.Pictures.{cut_picture};
 ghost use Rattle.elf32_loader.specs.Images.{image_picture};

@@ -1,7 +1,7 @@
 //! One function answers the rows of all tables.
 
 ghost use Rattle.std.specs.Prelude.{◌≡◌, true};
-ghost use Rattle.command_rows.specs.Wanted.{IsWanted};
+ghost use Rattle.command_rows.specs.Answering.{IsWanted};
 
 use crate::books::answer_by_books;
 use crate::tables::{Content, Failing, Row};

@@ -3,7 +3,7 @@ use Rattle.std.specs.Prelude.{◌≡◌, ◌≢◌, ℕ, List, ◌++◌, codes, 
 use Rattle.std.specs.Fmt.{decimal}
 use Rattle.elf32_loader.specs.declared.fault.ElfFault.{ElfFault}
 use Rattle.elf32_loader.specs.declared.fault.ElfFault.TheVariants.{Memory as NoRoomForProgram}
-use Rattle.elf32_loader.specs.FaultTexts.{program_fault_text}
+use Rattle.elf32_loader.specs.Fault.{program_fault_text}
 use Rattle.elf32_loader.specs.FirstFault.{IsFirstFault}
 use Rattle.cut_file.specs.declared.faults.CutFault.{CutFault}
 use Rattle.cut_file.specs.declared.faults.CutFault.TheVariants.{Memory as NoRoomForCut}
@@ -25,11 +25,11 @@ use Rattle.run_labels.specs.declared.faults.MeasureFault.{MeasureFault}
 use Rattle.run_labels.specs.declared.faults.MeasureFault.TheVariants.{Memory as NoRoomForRun}
 use Rattle.many_runs.specs.declared.faults.ManyFault.{ManyFault}
 use Rattle.many_runs.specs.declared.faults.ManyFault.TheVariants.{Memory as NoRoomForRuns}
-use Rattle.many_runs.specs.FaultTexts.{many_fault_text}
+use Rattle.many_runs.specs.Faults.{many_fault_text}
 use Rattle.region_learn.specs.declared.faults.LearnFault.{LearnFault}
 use Rattle.region_learn.specs.declared.faults.LearnFault.TheVariants.{Memory as NoRoomForLearning}
-use Rattle.region_learn.specs.FaultTexts.{learn_fault_text}
-use Rattle.run_labels.specs.FaultTexts.{run_fault_text}
+use Rattle.region_learn.specs.Faults.{learn_fault_text}
+use Rattle.run_labels.specs.Faults.{run_fault_text}
 use Rattle.command_tasks.specs.declared.refusals.Refusal.{Refusal}
 use Rattle.command_tasks.specs.declared.refusals.Refusal.TheVariants.{Usage, Program, Regions, Cut, Source, Load}
 use Rattle.command_tasks.specs.declared.refusals.Refusal.TheVariants.{Certificate, Run, Runs, Learn, TooLarge, Memory}

@@ -22,15 +22,15 @@ use Rattle.command_tasks.specs.Refusals.{refusal_text}
 use Rattle.command_tasks.specs.Tasks.{AllSecretsTask, CheckTask, ManyRunsTask, RunTask, Task, BoundAll, JudgeSecrets}
 use Rattle.command_tasks.specs.Tasks.{TellRun, MeasureAll, WriteProgram, ListProgram, VerifyCertificate, MigrateCut}
 use Rattle.command_tasks.specs.Tasks.{TryNumber, wants_of}
-use Rattle.task_answers.specs.Answers.{Answer, told}
-use Rattle.task_answers.specs.AllSecrets.{AnswersAllSecrets, AnswersBound, bound_of}
+use Rattle.task_answers.specs.Replies.{Answer, told}
+use Rattle.task_answers.specs.Bounding.{AnswersAllSecrets, AnswersBound, bound_of}
 use Rattle.task_answers.specs.Checks.{AnswersBy}
-use Rattle.task_answers.specs.ManyRuns.{AnswersMany}
+use Rattle.task_answers.specs.Many.{AnswersMany}
 use Rattle.task_answers.specs.Runs.{AnswersRun}
 use Rattle.task_answers.specs.Tellings.{AnswersTelling, IsCertificateText, IsCutOfRun, IsReport, Tells}
 use Rattle.task_answers.specs.Trials.{TellsTrial, run_of_number}
-use Rattle.task_answers.specs.TaskAnswers.{AnswersTask}
-use Rattle.task_answers.specs.Verifications.{verdict_reply}
+use Rattle.task_answers.specs.AnsweredTasks.{AnswersTask}
+use Rattle.task_answers.specs.Verdicts.{verdict_reply}
 use Rattle.commands.specs.Lines.{IsOneLine}
 use Rattle.commands.proofs.OneLine.{Clean, literal, joined, cut_fault, region, program, run_fault, many_fault}
 use Rattle.commands.proofs.OneLine.{learn_fault, source_fault, form_fault, name, number}

@@ -21,11 +21,11 @@ use Rattle.command_line.specs.declared.tellings.Telling.TheVariants.{CutText}
 use Rattle.command_line.specs.CommandLines.{GuestFiles, Command, Bounds, Checks, Tells, MeasuresAll, Assembles, Lists, Verifies, Migrates, Tries}
 use Rattle.command_tasks.specs.Tasks.{RunTask, ManyRunsTask, Task, AreRunFiles, IsTaskOf, wants_of}
 use Rattle.command_tasks.specs.Loading.{Loads}
-use Rattle.task_answers.specs.Answers.{Answer}
+use Rattle.task_answers.specs.Replies.{Answer}
 use Rattle.task_answers.specs.Checks.{judged_by, limits_of}
 use Rattle.task_answers.specs.Runs.{IsMeasured}
 use Rattle.task_answers.specs.CutTexts.{IsCutText, IsInVersion}
-use Rattle.task_answers.specs.ManyRuns.{AreMeasured}
+use Rattle.task_answers.specs.Many.{AreMeasured}
 use Rattle.commands.specs.Clauses.{Carries, TellingCarries}
 use Rattle.commands.specs.Headline.{Headline, Says}
 use Rattle.commands.specs.MeasuredHeadline.{MeasuredHeadline}

@@ -6,7 +6,7 @@ use Rattle.std.specs.Fmt.{decimal, digit_glyph, digits, digits_onto}
 use Rattle.flow_base.specs.HexWords.{hex_digit, hex_word}
 use Rattle.elf32_loader.specs.declared.fault.ElfFault.{ElfFault}
 use Rattle.elf32_loader.specs.declared.fault.ElfFault.TheVariants as elf
-use Rattle.elf32_loader.specs.FaultTexts.{hex_byte, program_fault_text}
+use Rattle.elf32_loader.specs.Fault.{hex_byte, program_fault_text}
 use Rattle.cut_file.specs.declared.faults.CutFault.{CutFault}
 use Rattle.cut_file.specs.declared.faults.CutFault.TheVariants as cut
 use Rattle.cut_file.specs.FaultTexts.{cut_fault_text}
@@ -30,12 +30,12 @@ use Rattle.run_labels.specs.declared.faults.MeasureFault.{MeasureFault}
 use Rattle.run_labels.specs.declared.faults.MeasureFault.TheVariants as run
 use Rattle.many_runs.specs.declared.faults.ManyFault.{ManyFault}
 use Rattle.many_runs.specs.declared.faults.ManyFault.TheVariants as many
-use Rattle.many_runs.specs.FaultTexts.{many_fault_text}
+use Rattle.many_runs.specs.Faults.{many_fault_text}
 use Rattle.region_learn.specs.declared.faults.LearnFault.{LearnFault}
 use Rattle.region_learn.specs.declared.faults.LearnFault.TheVariants as learn
-use Rattle.region_learn.specs.FaultTexts.{learn_fault_text}
-use Rattle.rv32im_machine.specs.FaultTexts.{stop_text}
-use Rattle.run_labels.specs.FaultTexts.{run_fault_text}
+use Rattle.region_learn.specs.Faults.{learn_fault_text}
+use Rattle.rv32im_machine.specs.Stepping.{stop_text}
+use Rattle.run_labels.specs.Faults.{run_fault_text}
 use Rattle.command_tasks.specs.Names.{escape, is_control, shown}
 use Rattle.commands.specs.Lines.{has_line_feed}
 

@@ -8,8 +8,8 @@ use Rattle.command_tasks.specs.declared.refusals.Refusal.TheVariants.{Usage}
 use Rattle.command_tasks.specs.Loading.{Loads}
 use Rattle.command_tasks.specs.Statuses.{status_number}
 use Rattle.command_tasks.specs.Tasks.{IsFormRefusal, IsTaskOf, wants_of}
-use Rattle.task_answers.specs.Answers.{Answer, Reads, told}
-use Rattle.task_answers.specs.TaskAnswers.{AnswersTask}
+use Rattle.task_answers.specs.Replies.{Answer, Reads, told}
+use Rattle.task_answers.specs.AnsweredTasks.{AnswersTask}
 use Rattle.commands.specs.Replies.{AnswersWords}
 
 -- the status that an answer is told with

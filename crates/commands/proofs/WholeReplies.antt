@@ -11,7 +11,7 @@ use Rattle.command_tasks.specs.Loading.{IsLoadRefusal, Want}
 use Rattle.command_tasks.specs.Statuses.{status_number}
 use Rattle.command_tasks.specs.Tasks.{wants_of}
 use Rattle.task_answers.specs.declared.replies.Reply.{Reply as MadeReply}
-use Rattle.task_answers.specs.Answers.{Answer, told}
+use Rattle.task_answers.specs.Replies.{Answer, told}
 use Rattle.commands.specs.Clauses.{CountsFaults, IsPut, IsReply}
 use Rattle.commands.specs.Lines.{IsOneLine}
 use Rattle.commands.specs.Replies.{AnswersWords, IsAnswered, RefusesWords, Reply, reply_of}

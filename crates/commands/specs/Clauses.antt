@@ -12,7 +12,7 @@ use Rattle.command_line.specs.CommandLines.{IsNoCommand}
 use Rattle.command_tasks.specs.Tasks.{RunTask, Task, JudgeSecrets, TellRun, MeasureAll}
 use Rattle.task_answers.specs.Checks.{judged_by, limits_of}
 use Rattle.task_answers.specs.CutTexts.{IsCutText}
-use Rattle.task_answers.specs.ManyRuns.{AreMeasured}
+use Rattle.task_answers.specs.Many.{AreMeasured}
 use Rattle.task_answers.specs.Runs.{IsMeasured}
 use Rattle.commands.specs.Headline.{Headline}
 use Rattle.commands.specs.Lines.{IsOneLine}

@@ -7,8 +7,8 @@ use Rattle.command_tasks.specs.declared.refusals.Refusal.TheVariants.{Usage}
 use Rattle.command_tasks.specs.Loading.{Loads, Want}
 use Rattle.command_tasks.specs.Statuses.{status_number}
 use Rattle.command_tasks.specs.Tasks.{IsFormRefusal, IsTaskOf, Task, wants_of}
-use Rattle.task_answers.specs.Answers.{Answer, told}
-use Rattle.task_answers.specs.TaskAnswers.{AnswersTask}
+use Rattle.task_answers.specs.Replies.{Answer, told}
+use Rattle.task_answers.specs.AnsweredTasks.{AnswersTask}
 
 -- a load of a command is refused, or what is loaded is malformed
 abbrev pub RefusesFiles : Option Told → Command → Refusal → Type 0

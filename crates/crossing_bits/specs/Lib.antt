@@ -1,5 +1,5 @@
 pub mod Askers
 pub mod Weights
-pub mod Streams
+pub mod Strings
 pub mod HexText
 pub mod Returns

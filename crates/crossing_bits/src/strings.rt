@@ -1,6 +1,6 @@
 ghost use Rattle.std.specs.Prelude.{◌≡◌, ◌↔◌, ◌+◌, ◌^◌, ◌++◌, [], ◌≤◌, ◌<◌, length, take, drop, IsOk, IfOk, OnOk, OnErr, IsSome, OnSome, IfSome, IfNone};
 ghost use Rattle.flow_base.specs.Words.{bit_count as count_of, bits_under, patched as patched_word};
-ghost use Rattle.crossing_bits.specs.Streams.{left_of};
+ghost use Rattle.crossing_bits.specs.Strings.{left_of};
 ghost use Rattle.crossing_bits.specs.HexText.{hex_of};
 
 use crate::masks::{bit_count, patched, push_bits};
@@ -19,7 +19,7 @@ pub struct Bits {
 impl Model for Bits {
     ghost use Rattle.std.specs.Prelude.{◌-◌, ◌≤◌, ◌<◌, ◌^◌};
     ghost use Rattle.std.specs.Vec.{vec_len, vec_capacity};
-    ghost use Rattle.crossing_bits.specs.Streams.{Stream};
+    ghost use Rattle.crossing_bits.specs.Strings.{Stream};
 
     ghost Value = { Stream };
 

@@ -8,7 +8,7 @@ use Rattle.byteorder.specs.Numbers.{little_number-reads_back}
 use Rattle.elf32_loader.specs.declared.headers.Header.{Header}
 use Rattle.elf32_loader.specs.declared.segments.Segment.{Segment}
 use Rattle.elf32_loader.specs.Headers.{header_from, file_word}
-use Rattle.elf32_loader.specs.Written.{contents, program_header, program_headers}
+use Rattle.elf32_loader.specs.Writing.{contents, program_header, program_headers}
 
 -- a word reads as it was written
 pub word_back : (n : ℕ) → n < 2 ^ 32 → little_from 0 4 (little_bytes 4 n) ≡ n

@@ -6,7 +6,7 @@ use Rattle.std.proofs.lemmas.List.{append_assoc, drop_more, length-append}
 use Rattle.elf32_loader.specs.declared.segments.Segment.{Segment}
 use Rattle.elf32_loader.specs.Segments.{are_inside, end_of, is_ascending}
 use Rattle.flow_base.specs.Guests.{memory_size}
-use Rattle.elf32_loader.specs.Written.{contents, program_header, program_headers}
+use Rattle.elf32_loader.specs.Writing.{contents, program_header, program_headers}
 
 -- the segments from an index on begin with that one
 front : (segments : List Segment) (index : ℕ) (segment : Segment) → index < length segments

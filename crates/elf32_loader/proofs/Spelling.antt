@@ -14,7 +14,7 @@ use Rattle.elf32_loader.specs.Headers.{HoldsAddress, IsLoad, entry_of, file_type
 use Rattle.elf32_loader.specs.Pictures.{Picture, is_image_picture}
 use Rattle.elf32_loader.specs.Programs.{IsImage, IsLoaded}
 use Rattle.elf32_loader.specs.Segments.{are_inside, end_of, highest_base, highest_end, holds, is_ascending, is_base_of, is_entry, rounded_down, some_holds}
-use Rattle.elf32_loader.specs.Written.{contents, elf_header, headers, program_headers, written}
+use Rattle.elf32_loader.specs.Writing.{contents, elf_header, headers, program_headers, written}
 use Rattle.flow_base.specs.Guests.{memory_size}
 use Rattle.elf32_loader.proofs.Bases.{same_base}
 use Rattle.elf32_loader.proofs.Laying.{bytes_in, header_in, length_of_headers, start_of, starts_within, word_back, written_header}

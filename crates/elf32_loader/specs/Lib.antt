@@ -4,7 +4,7 @@ pub mod Images
 pub mod Headers
 pub mod FaultTable
 pub mod FirstFault
-pub mod FaultTexts
-pub mod Written
+pub mod Fault
+pub mod Writing
 pub mod Programs
 pub mod Private

@@ -8,7 +8,7 @@ use Rattle.elf32_loader.specs.FirstFault.{IsFirstFault}
 use Rattle.elf32_loader.specs.Headers.{HoldsAddress, IsLoad, entry_of, header_at}
 use Rattle.elf32_loader.specs.Pictures.{Picture, is_image_picture, mem}
 use Rattle.elf32_loader.specs.Segments.{is_ascending}
-use Rattle.elf32_loader.specs.Written.{written}
+use Rattle.elf32_loader.specs.Writing.{written}
 
 -- the byte that a load puts at an address: one of the file, or 0 past those
 abbrev pub loaded_byte : List ℕ → Header → ℕ → ℕ

@@ -84,7 +84,7 @@ struct HexByte(u8);
 
 impl fmt::Display for HexByte {
     ghost use Rattle.std.specs.Prelude.{Some};
-    ghost use Rattle.elf32_loader.specs.FaultTexts.{hex_byte};
+    ghost use Rattle.elf32_loader.specs.Fault.{hex_byte};
 
     ghost output = { λ byte. Some (hex_byte byte.0) };
 
@@ -98,7 +98,7 @@ impl fmt::Display for HexByte {
 
 impl fmt::Display for ElfFault {
     ghost use Rattle.std.specs.Prelude.{Some};
-    ghost use Rattle.elf32_loader.specs.FaultTexts.{program_fault_text};
+    ghost use Rattle.elf32_loader.specs.Fault.{program_fault_text};
 
     ghost output = { λ fault. Some (program_fault_text fault) };
 

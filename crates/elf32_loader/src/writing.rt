@@ -1,6 +1,6 @@
 ghost use Rattle.std.specs.Prelude.{◌≡◌, ◌+◌, ◌^◌, ◌<◌, ◌≤◌, ◌++◌, IfOk, OnOk, length};
 ghost use Rattle.elf32_loader.specs.Images.{image_picture};
-ghost use Rattle.elf32_loader.specs.Written.{contents, elf_header, program_header, program_headers, written};
+ghost use Rattle.elf32_loader.specs.Writing.{contents, elf_header, program_header, program_headers, written};
 
 use crate::{Image, Segment};
 use flow_base::{Bytes, NoMemory};

@@ -13,7 +13,7 @@ use Rattle.every_secret.specs.declared.sums.Sum.{Sum}
 use Rattle.every_secret.specs.Bounds.{pattern_limit, size_of}
 use Rattle.every_secret.specs.Paths.{Opens, Tree, paths_of}
 use Rattle.every_secret.specs.Private.Folding.{FoldsTo, IsKnown, stops_in}
-use Rattle.every_secret.specs.Private.Opened.{with_sum}
+use Rattle.every_secret.specs.Private.OpenPlaces.{with_sum}
 use Rattle.every_secret.specs.Private.Orders.{earlier, past, under}
 use Rattle.every_secret.specs.Private.Searching.{Adds, AllLead, AreClosed, CameTo, CanGoBack, CanReturn, IsAdded, IsAddedTo, IsCome}
 use Rattle.every_secret.specs.Private.Searching.{IsJudged, IsOpen, JudgesSo, Stood, Terms, known_in, spot_of}

@@ -11,7 +11,7 @@ use Rattle.std.proofs.Math.Nat.{pow-suc, mul_assoc, suc-mul, le-mul_of_pos_right
 use Rattle.std.proofs.Math.Pow.{pow-lt}
 use Rattle.crossing_bits.proofs.Feeding.{le_or_lt}
 use Rattle.every_secret.specs.Bounds.{IsLeastPower}
-use Rattle.every_secret.specs.Private.Ceilings.{Ascend, IsCeiling, sum_of_powers}
+use Rattle.every_secret.specs.Private.Numbers.{Ascend, IsCeiling, sum_of_powers}
 
 twice : (n left : ℕ) → n * 2 ^ suc left ≡ 2 * (n * 2 ^ left)
 twice n left =

@@ -10,7 +10,7 @@ use Rattle.transfer_rules.specs.declared.classes.Class.{Class}
 use Rattle.transfer_rules.specs.declared.classes.Class.TheVariants.{Add, Sub, And, Or, Xor, Sll, Srl, Sra, Slt, Sltu}
 use Rattle.transfer_rules.specs.declared.classes.Class.TheVariants.{Equal, Mul, Mulh, Mulhsu, Mulhu, Div, Divu, Rem, Remu}
 use Rattle.transfer_rules.specs.declared.operands.Operands.{Operands}
-use Rattle.transfer_rules.specs.ShiftRanges.{is_shift, shift_range}
+use Rattle.transfer_rules.specs.Shifts3.{is_shift, shift_range}
 use Rattle.transfer_rules.specs.Soundness.{AreWords}
 use Rattle.transfer_rules.specs.Table1.{flipped, mask_by_table_1, sum_mask}
 use Rattle.transfer_rules.specs.Table2.{greatest, least, lowest, mask_by_table_2, order_mask}

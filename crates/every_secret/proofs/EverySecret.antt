@@ -5,7 +5,7 @@ use Rattle.std.specs.Prelude.{◌==◌, if◌then◌else◌}
 use Rattle.std.specs.List.{AllByRecursion}
 use Rattle.crossing_bits.specs.Askers.{AllDifferent, Asker}
 use Rattle.acceptance_law.specs.MeasuredLaws.{AreInputs}
-use Rattle.acceptance_law.specs.Proper.{AreBytes}
+use Rattle.acceptance_law.specs.Inputs.{AreBytes}
 use Rattle.cut_file.specs.Cuts.{CutPicture, is_cut_picture}
 use Rattle.elf32_loader.specs.Pictures.{Picture}
 use Rattle.enclosure_regions.specs.declared.region_parts.Region.{Region}

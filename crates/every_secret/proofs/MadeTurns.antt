@@ -21,7 +21,7 @@ use Rattle.tracked_run.specs.declared.held.Held.{Held}
 use Rattle.tracked_run.specs.Labels.{labels_of, map_of, clean_held}
 use Rattle.lockstep_replay.specs.Tasks.{Task}
 use Rattle.every_secret.specs.declared.whys.UnclearWhy.TheVariants.{BaseSecret}
-use Rattle.every_secret.specs.Private.Ends.{lengthens_none}
+use Rattle.every_secret.specs.Private.Walking.{lengthens_none}
 use Rattle.every_secret.specs.Masked.{MaskedPlace, Reached, Goes, Meets, Halts, masked}
 use Rattle.every_secret.specs.Rules.{Rules}
 use Rattle.every_secret.specs.Private.Tapes.{AreRulesOf, Arrives, EndsAt, EndsMasked, HoldsPlace, HoldsReached, Lengthens, PlaysWalk, Tape}

@@ -4,7 +4,7 @@ use Rattle.flow_base.specs.declared.lists.NoMemory.{NoMemory}
 use Rattle.flow_base.specs.declared.points.Point.{Point}
 use Rattle.flow_base.specs.Words.{patched}
 use Rattle.crossing_bits.specs.Askers.{Asker, feed, Fed'}
-use Rattle.crossing_bits.specs.Streams.{Stream}
+use Rattle.crossing_bits.specs.Strings.{Stream}
 use Rattle.rv32im_machine.specs.declared.language.Passing.{Passing}
 use Rattle.rv32im_machine.specs.declared.language.Place.{Place}
 use Rattle.rv32im_machine.specs.declared.language.Seen.{Seen}

@@ -6,7 +6,7 @@ use Rattle.std.specs.List.{AllByRecursion}
 use Rattle.std.proofs.lemmas.Bool.{cases_lt, ltb-false}
 use Rattle.std.proofs.lemmas.List.{drop-append-le, length-append, take-append-drop}
 use Rattle.crossing_bits.specs.Askers.{Asker, Fed', feed}
-use Rattle.crossing_bits.specs.Streams.{Stream, left_of}
+use Rattle.crossing_bits.specs.Strings.{Stream, left_of}
 use Rattle.crossing_bits.proofs.Feeding.{feed_then}
 use Rattle.flow_base.specs.declared.points.Point.{Point}
 use Rattle.kept_states.specs.declared.kept_states.KeptState.{KeptState}
@@ -34,7 +34,7 @@ use Rattle.every_secret.specs.Paths.{Fork, Leaf, Opens, Path, Tree, paths_of, tr
 use Rattle.every_secret.specs.Replays.{ended_or, walked_on}
 use Rattle.every_secret.specs.Turns.{masked_turn}
 use Rattle.every_secret.specs.Ways.{EndsAfter, EndsIn, EndsOn, GoesOn, Leads}
-use Rattle.every_secret.specs.Private.Ends.{lengthens_none}
+use Rattle.every_secret.specs.Private.Walking.{lengthens_none}
 use Rattle.every_secret.specs.Private.Folding.{FoldsTo, stops_in}
 use Rattle.every_secret.specs.Private.Orders.{Come, descend, earlier, past, under}
 use Rattle.every_secret.specs.Private.Searching.{AllLead, AreClosed, CameTo, CanGoBack, CanReturn, GoesOrEnds, IsCome}

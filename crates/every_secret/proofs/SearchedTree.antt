@@ -9,7 +9,7 @@ use Rattle.every_secret.specs.declared.stepping.Step.TheVariants.{Answered, Done
 use Rattle.every_secret.specs.declared.verdicts.Bounded.{Bounded}
 use Rattle.every_secret.specs.declared.verdicts.BoundVerdict.TheVariants as verdict
 use Rattle.every_secret.specs.declared.whys.UnclearWhy.{UnclearWhy}
-use Rattle.crossing_bits.specs.Streams.{Stream}
+use Rattle.crossing_bits.specs.Strings.{Stream}
 use Rattle.every_secret.specs.Bounds.{TreeAnswer, IsVerdict, Shows}
 use Rattle.every_secret.specs.Paths.{Opens}
 use Rattle.every_secret.specs.Rules.{Rules}

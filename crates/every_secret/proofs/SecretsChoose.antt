@@ -24,7 +24,7 @@ use Rattle.replay_machine.specs.Runs.{Replay, replay_fresh}
 use Rattle.lockstep_replay.specs.Crossing.{cross_after}
 use Rattle.lockstep_replay.specs.Tasks.{Limits, Task, real_of, real_start, replay_start, task_of}
 use Rattle.shadow_masks.specs.Writes.{default_map}
-use Rattle.acceptance_law.specs.Proper.{AreBytes}
+use Rattle.acceptance_law.specs.Inputs.{AreBytes}
 use Rattle.acceptance_law.specs.ProperLaws.{ProperTurnsLaw}
 use Rattle.acceptance_law.proofs.CoveredRunAccepted.{length_zeros, zero_bytes}
 use Rattle.acceptance_law.proofs.ProperRows.{proper_law}

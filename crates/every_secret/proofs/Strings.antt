@@ -7,8 +7,8 @@ use Rattle.std.proofs.Math.Seq.{drop-nil}
 use Rattle.flow_base.specs.Words.{bit_count, bits_below, bits_under, count_below}
 use Rattle.crossing_bits.specs.Askers.{Asker, Asks, feed}
 use Rattle.crossing_bits.proofs.Feeding.{feed_enough}
-use Rattle.crossing_bits.specs.Streams.{Stream}
-use Rattle.every_secret.specs.Private.Ends.{lengthens_none}
+use Rattle.crossing_bits.specs.Strings.{Stream}
+use Rattle.every_secret.specs.Private.Walking.{lengthens_none}
 use Rattle.every_secret.specs.Private.Tapes.{Lengthens, Takes}
 
 -- the beginning of what is left is not changed by what comes after it

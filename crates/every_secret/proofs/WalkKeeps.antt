@@ -40,7 +40,7 @@ use Rattle.shadow_masks.specs.Labels.{clean}
 use Rattle.shadow_masks.specs.Writes.{LabelMap}
 use Rattle.shadow_masks.specs.Pages.{label_of}
 use Rattle.transfer_rules.specs.Table1.{flipped}
-use Rattle.acceptance_law.specs.Proper.{AreBytes, IsMove, IsPassing, FitsPlace, IsProper, place_limit}
+use Rattle.acceptance_law.specs.Inputs.{AreBytes, IsMove, IsPassing, FitsPlace, IsProper, place_limit}
 use Rattle.acceptance_law.proofs.AgreeOutsideMask.{patched_uncrossed}
 use Rattle.acceptance_law.proofs.Passings.{first_word, made_agrees, made_fits, mask_fits, patched_slot, second_word, slot_word}
 use Rattle.acceptance_law.proofs.Turns.{feed_bits, label_of_limit, seen_word}

@@ -28,7 +28,7 @@ use Rattle.shadow_masks.specs.Labels.{clean}
 use Rattle.shadow_masks.specs.Pages.{label_of}
 use Rattle.shadow_masks.specs.Writes.{LabelMap, Save, after}
 use Rattle.run_labels.specs.TurnLabels.{TurnLabels, at_start, label_at, put_label, restore_labels}
-use Rattle.acceptance_law.specs.Proper.{place_limit}
+use Rattle.acceptance_law.specs.Inputs.{place_limit}
 use Rattle.acceptance_law.proofs.Entering.{SameStarts}
 use Rattle.acceptance_law.proofs.Leaving.{KeptBeside, kept_same, outputs_are, put_back, restored_beside, same_outputs}
 use Rattle.acceptance_law.proofs.Leaving.{zero_unlisted}

@@ -28,7 +28,7 @@ use Rattle.lockstep_replay.proofs.RunsGrow.{IsAt, at_enclosed, common_enclosed, 
 use Rattle.lockstep_replay.proofs.RunsGrow.{cross_next, fed_next}
 use Rattle.shadow_masks.specs.Writes.{LabelMap}
 use Rattle.run_labels.specs.Runs.{stopped_fault}
-use Rattle.acceptance_law.specs.Proper.{AreBytes}
+use Rattle.acceptance_law.specs.Inputs.{AreBytes}
 use Rattle.acceptance_law.specs.ProperLaws.{ProperTurnsLaw}
 use Rattle.acceptance_law.proofs.CoveredRunAccepted.{end_alike, same_fed}
 use Rattle.acceptance_law.proofs.StepsKeepStanding.{placed, state_of}

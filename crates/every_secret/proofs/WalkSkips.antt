@@ -25,7 +25,7 @@ use Rattle.lockstep_replay.specs.Crossing.{crossing}
 use Rattle.lockstep_replay.specs.Tasks.{Task}
 use Rattle.shadow_masks.specs.Writes.{LabelMap, Save, after}
 use Rattle.run_labels.specs.TurnLabels.{at_start}
-use Rattle.acceptance_law.specs.Proper.{AreBytes, IsProperGuest, IsProper}
+use Rattle.acceptance_law.specs.Inputs.{AreBytes, IsProperGuest, IsProper}
 use Rattle.acceptance_law.specs.ProperLaws.{ProperTurnsLaw}
 use Rattle.acceptance_law.proofs.Entering.{SameStarts, entry_end, outside_same}
 use Rattle.acceptance_law.proofs.RegionTurns.{entered_break, entered_region, leave_end, ranges_unbroken, stands_left}

@@ -27,7 +27,7 @@ use Rattle.lockstep_replay.specs.Tasks.{Task}
 use Rattle.lockstep_replay.specs.Verdicts.{counted_bits}
 use Rattle.shadow_masks.specs.Writes.{LabelMap, Save, after}
 use Rattle.run_labels.specs.TurnLabels.{at_start}
-use Rattle.acceptance_law.specs.Proper.{AreBytes, IsProperGuest, IsProper}
+use Rattle.acceptance_law.specs.Inputs.{AreBytes, IsProperGuest, IsProper}
 use Rattle.acceptance_law.specs.ProperLaws.{ProperTurnsLaw}
 use Rattle.acceptance_law.proofs.StepsKeepStanding.{HasRules, InsideBeside, Stands, kept_moved, placed, state_of}
 use Rattle.acceptance_law.proofs.Entering.{SameStarts, entry_crossing, entry_end, entry_passed, entry_replayed, outside_same}

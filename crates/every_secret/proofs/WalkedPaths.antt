@@ -3,7 +3,7 @@ use Rattle.std.proofs.Common.{◌≡◌, ℕ, suc, ◌≤◌, ◌++◌, List, Bo
 use Rattle.std.proofs.Common.{ap, ◌∙◌, subst, drop, length, replicate, arith, nat_lt}
 use Rattle.std.proofs.lemmas.List.{drop-append-le}
 use Rattle.crossing_bits.specs.Askers.{Asker, Fed', Over, feed}
-use Rattle.crossing_bits.specs.Streams.{Stream, left_of}
+use Rattle.crossing_bits.specs.Strings.{Stream, left_of}
 use Rattle.crossing_bits.proofs.Feeding.{feed_more, feed_then}
 use Rattle.flow_base.specs.declared.points.Point.{Point}
 use Rattle.rv32im_machine.specs.declared.stepping.Stepped.{Stepped}
@@ -17,7 +17,7 @@ use Rattle.every_secret.specs.declared.endings.Ending.TheVariants as ending
 use Rattle.every_secret.specs.declared.stops.PathStop.TheVariants.{Guest, RangeOutside, Turns}
 use Rattle.every_secret.specs.declared.whys.UnclearWhy.{UnclearWhy}
 use Rattle.every_secret.specs.declared.whys.UnclearWhy.TheVariants.{Budget}
-use Rattle.every_secret.specs.Private.Ends.{lengthens_none}
+use Rattle.every_secret.specs.Private.Walking.{lengthens_none}
 use Rattle.every_secret.specs.Masked.{MaskedPlace, Reached, Goes, Meets, Halts}
 use Rattle.every_secret.specs.declared.path_ends.PathEnd.{PathEnd}
 use Rattle.every_secret.specs.declared.path_ends.PathEnd.TheVariants.{Exits}

@@ -3,7 +3,7 @@ use Rattle.std.specs.Prelude.{◌≡◌, ℕ, ◌≤◌, ◌^◌, List, [], leng
 use Rattle.std.specs.List.{AllByRecursion}
 use Rattle.crossing_bits.specs.Askers.{AllDifferent}
 use Rattle.flow_base.specs.declared.outputs.Output.{Output}
-use Rattle.acceptance_law.specs.Proper.{AreBytes}
+use Rattle.acceptance_law.specs.Inputs.{AreBytes}
 use Rattle.lockstep_replay.specs.Acceptance.{Accept, HasExited}
 use Rattle.lockstep_replay.specs.Tasks.{Limits, Task, real_of}
 use Rattle.every_secret.specs.Bounds.{TreeAnswer, Found, IsBounded, IsUnclear, output_count}

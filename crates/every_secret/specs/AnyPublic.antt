@@ -6,7 +6,7 @@ use Rattle.crossing_bits.specs.Askers.{AllDifferent}
 use Rattle.flow_base.specs.declared.outputs.Output.{Output}
 use Rattle.flow_base.specs.Words.{Agree}
 use Rattle.rv32im_machine.specs.Start.{zeros}
-use Rattle.acceptance_law.specs.Proper.{AreBytes}
+use Rattle.acceptance_law.specs.Inputs.{AreBytes}
 use Rattle.lockstep_replay.specs.Acceptance.{Accept}
 use Rattle.lockstep_replay.specs.Tasks.{Limits, Task}
 use Rattle.every_secret.specs.declared.public_inputs.PublicInput.{PublicInput}

@@ -4,7 +4,7 @@ use Rattle.std.specs.Prelude.{ℕ, List, ◌++◌, codes}
 use Rattle.std.specs.Fmt.{decimal}
 use Rattle.flow_base.specs.HexWords.{hex_word}
 use Rattle.flow_base.specs.Points.{point_text}
-use Rattle.rv32im_machine.specs.FaultTexts.{stop_text}
+use Rattle.rv32im_machine.specs.Stepping.{stop_text}
 use Rattle.every_secret.specs.declared.stops.PathStop.{PathStop}
 use Rattle.every_secret.specs.declared.stops.PathStop.TheVariants.{Guest, RangeOutside, Turns}
 use Rattle.every_secret.specs.declared.whys.UnclearWhy.{UnclearWhy}

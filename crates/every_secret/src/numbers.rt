@@ -2,7 +2,7 @@
 
 ghost use Rattle.std.specs.Prelude.{◌≡◌, ◌+◌, ◌<◌, ◌≤◌, ◌^◌, IfOk, IfSome, IfNone, All};
 ghost use Rattle.every_secret.specs.Bounds.{IsLeastPower, free_bits as free_bits_of, free_count, output_count as count_of};
-ghost use Rattle.every_secret.specs.Private.Ceilings.{Ascend, IsCeiling, sum_of_powers};
+ghost use Rattle.every_secret.specs.Private.Numbers.{Ascend, IsCeiling, sum_of_powers};
 
 use crate::patterns::Pattern;
 use crossing_bits::bit_count;

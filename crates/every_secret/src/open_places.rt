@@ -1,5 +1,5 @@
 ghost use Rattle.std.specs.Prelude.{◌≡◌, ◌++◌, ◌∷◌, [], map, OnOk};
-ghost use Rattle.every_secret.specs.Private.Opened.{with_sum};
+ghost use Rattle.every_secret.specs.Private.OpenPlaces.{with_sum};
 
 use crate::sums::Sum;
 use flow_base::NoMemory;

@@ -191,7 +191,7 @@ impl Passer for Walking<'_> {
     ghost use Rattle.tracked_run.specs.Labels.{labels_of};
     ghost use Rattle.every_secret.specs.Private.Resting.{Rests};
     ghost use Rattle.every_secret.specs.Private.Tapes.{Tape, PlaysWalk, tape_of};
-    ghost use Rattle.every_secret.specs.Private.Ends.{masks_Ended};
+    ghost use Rattle.every_secret.specs.Private.Walking.{masks_Ended};
 
     type Stop = NoMemory;
 

@@ -1,3 +1,3 @@
-pub mod Judged
-pub mod Texts
-pub mod Words
+pub mod Judging
+pub mod Ranges
+pub mod Agreeing

@@ -4,8 +4,8 @@ pub mod PointOrders
 pub mod Counts
 pub mod Loads
 pub mod Puts
-pub mod Memory
-pub mod Room
+pub mod MemoryFiles
+pub mod MemorySink
 pub mod Guests
 pub mod HexWords
 pub mod Listed

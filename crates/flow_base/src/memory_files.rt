@@ -1,7 +1,7 @@
 ghost use Rattle.std.specs.Prelude.{◌≡◌, ◌≢◌, ◌+◌, ◌^◌, ◌<◌, ◌≤◌, Err, option_map, option_copied, List as Seq};
 ghost use Rattle.flow_base.specs.Loads.{after_load, last_answer, UnlessMemory, Answers, ShowsCause};
 ghost use Rattle.flow_base.specs.declared.loading.LoadFault.TheVariants.{Failed};
-ghost use Rattle.flow_base.specs.Memory.{held_under, told_of, files_after};
+ghost use Rattle.flow_base.specs.MemoryFiles.{held_under, told_of, files_after};
 
 use crate::lists::{Bytes, List};
 use crate::loading::{Files, LoadFault};
@@ -62,7 +62,7 @@ impl MemoryFiles {
 
 impl Files for MemoryFiles {
     ghost use Rattle.std.specs.Prelude.{Some};
-    ghost use Rattle.flow_base.specs.Memory.{told_of};
+    ghost use Rattle.flow_base.specs.MemoryFiles.{told_of};
 
     ghost faults = { λ files. files.faults };
 

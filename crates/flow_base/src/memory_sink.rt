@@ -1,7 +1,7 @@
 ghost use Rattle.std.specs.Prelude.{◌≡◌, ◌≤◌, IfOk, OnOk, OnErr, Some, option_map, List as Seq};
 ghost use Rattle.flow_base.specs.Counts.{Rose};
 ghost use Rattle.flow_base.specs.Puts.{Puts};
-ghost use Rattle.flow_base.specs.Room.{empty_sink, taken_of, fail_of, sink_after, put_answer};
+ghost use Rattle.flow_base.specs.MemorySink.{empty_sink, taken_of, fail_of, sink_after, put_answer};
 
 use crate::lists::{List, NoMemory};
 use crate::putting::{Sink, SinkFault};
@@ -30,7 +30,7 @@ pub struct MemorySink {
 
 impl Model for MemorySink {
     ghost use Rattle.std.specs.Prelude.{◌+◌, ◌≤◌, vec_len, vec_capacity};
-    ghost use Rattle.flow_base.specs.Room.{SinkState};
+    ghost use Rattle.flow_base.specs.MemorySink.{SinkState};
 
     ghost Value = { SinkState };
 
@@ -75,7 +75,7 @@ impl MemorySink {
 
 impl Sink for MemorySink {
     ghost use Rattle.std.specs.Prelude.{Some};
-    ghost use Rattle.flow_base.specs.Room.{taken_of};
+    ghost use Rattle.flow_base.specs.MemorySink.{taken_of};
 
     ghost faults = { λ sink. sink.faults };
 

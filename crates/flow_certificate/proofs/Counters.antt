@@ -2,7 +2,7 @@
 use Rattle.std.proofs.Common.{◌≡◌, ℕ, zero, suc, ◌+◌, ◌*◌, ◌^◌, ◌≤◌, ◌<◌, cond, eqb, Bool, true, false, List, [], ◌∷◌}
 use Rattle.std.proofs.Common.{length, map, get_or, slice_index, refl, ap, ◌∙◌, subst, arith, add-one}
 use Rattle.flow_graph.specs.declared.ends.Arc.{Arc}
-use Rattle.max_flow.specs.NodeNumbers.{head_of, tail_of}
+use Rattle.max_flow.specs.Building.{head_of, tail_of}
 use Rattle.max_flow.proofs.Sums.{sum_none, sum_suc}
 use Rattle.flow_certificate.specs.Private.Sums.{AreAdded, AreSmall, HaveRoom, brought, given, heads_of, tails_of}
 

@@ -3,7 +3,7 @@ use Rattle.std.proofs.Common.{◌≡◌, ℕ, List, [], ◌∷◌, ◌++◌, app
 use Rattle.flow_base.specs.declared.points.Point.{Point}
 use Rattle.flow_graph.specs.declared.events.Event.{Event}
 use Rattle.flow_graph.specs.declared.events.Event.TheVariants.{Pass, Link, Out}
-use Rattle.flow_graph.specs.Again.{again_events}
+use Rattle.flow_graph.specs.Events.{again_events}
 
 pub again_in_turn : (events : List Event) (point : Point) (mask : ℕ) →
     ((events ++ Pass point mask ∷ []) ++ Link point point ∷ []) ++ Out point.region point ∷ []

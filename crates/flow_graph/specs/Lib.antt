@@ -2,5 +2,5 @@ pub mod Graphs
 pub mod EventGraphs
 pub mod Keeping
 pub mod Builders
-pub mod Again
+pub mod Events
 pub mod LinkOrders

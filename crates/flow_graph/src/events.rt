@@ -1,6 +1,6 @@
 ghost use Rattle.std.specs.Prelude.{◌++◌, ◌∷◌, [], List as Seq, OnOk};
 ghost use Rattle.flow_graph.specs.declared.events.Event.{Event as AnEvent};
-ghost use Rattle.flow_graph.specs.Again.{again_events};
+ghost use Rattle.flow_graph.specs.Events.{again_events};
 
 use flow_base::{NoMemory, Point};
 

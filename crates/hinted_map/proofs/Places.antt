@@ -9,7 +9,7 @@ use Rattle.std.proofs.lemmas.Map.Entries.{lookup_from_place}
 use Rattle.std.proofs.lemmas.Option.{slice_get-map}
 use Rattle.indexmap.specs.IndexMap.{IndexMap, keys}
 use Rattle.indexmap.proofs.CallerLemmas.{updates-with_value_at}
-use Rattle.hinted_map.specs.Places.{StandsAt}
+use Rattle.hinted_map.specs.Maps.{StandsAt}
 
 pub stands : {K V S : Type 0} {is_same : K → K → Bool} → IsEquivalence is_same → (m : IndexMap K V S) (key k : K) (index : ℕ)
     (value : V) → IsDistinct is_same (keys m) → is_same key k ≡ true → slice_get m.entries index ≡ Some (k, value) →

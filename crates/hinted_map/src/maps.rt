@@ -3,7 +3,7 @@ ghost use Rattle.std.specs.Bool.{OnTrue};
 ghost use Rattle.std.specs.List.{IsDistinct};
 ghost use Rattle.std.specs.Map.{keys_of, lookup};
 ghost use Rattle.std.specs.Ordering.{eq_by_cmp};
-ghost use Rattle.hinted_map.specs.Places.{Puts, StandsAt};
+ghost use Rattle.hinted_map.specs.Maps.{Puts, StandsAt};
 
 use flow_base::NoMemory;
 use indexmap::IndexMap;

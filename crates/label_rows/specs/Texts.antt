@@ -6,7 +6,7 @@ use Rattle.flow_base.specs.HexWords.{hex_word}
 use Rattle.flow_base.specs.Points.{point_text}
 use Rattle.flow_graph.specs.declared.events.Event.{Event}
 use Rattle.flow_graph.specs.declared.events.Event.TheVariants.{Pass, Link, FromSecret, Implicit, Out}
-use Rattle.run_labels.specs.FaultTexts.{run_fault_text}
+use Rattle.run_labels.specs.Faults.{run_fault_text}
 use Rattle.tracked_run.specs.declared.outcomes.TrackedTurn.{TrackedTurn}
 use Rattle.tracked_run.specs.declared.outcomes.TrackedTurn.TheVariants.{Ran, Exited, Refused}
 

@@ -8,13 +8,13 @@ use Rattle.flow_graph.specs.declared.events.Event.TheVariants.{Pass, Link, FromS
 use Rattle.flow_graph.specs.declared.named_links.NamedLink.{NamedLink}
 use Rattle.flow_graph.specs.declared.named_links.NamedEnd.{NamedEnd}
 use Rattle.flow_graph.specs.declared.named_links.NamedEnd.TheVariants.{Source, At, Relay, Sink}
-use Rattle.flow_graph.specs.Again.{again_events}
+use Rattle.flow_graph.specs.Events.{again_events}
 use Rattle.flow_graph.specs.EventGraphs.{is_among, links_by, one_if, outlet_of}
 use Rattle.flow_graph.specs.Keeping.{Keeps, TakesLinks, is_known, is_there}
 use Rattle.flow_graph.proofs.Again.{again_in_turn}
 use Rattle.flow_graph.proofs.KeptAfterEvent.{keeps_links}
 use Rattle.location_collapse.specs.Collapses.{MakesLink, has_ends}
-use Rattle.location_collapse.specs.LatestLinks.{has_flow, has_output}
+use Rattle.location_collapse.specs.KeptLinks.{has_flow, has_output}
 use Rattle.location_collapse.proofs.LinkMarks.{known_takes, no_link}
 
 pub known_link : (capacities : List (Point × ℕ)) (links : List NamedLink) (e : Event) (link : NamedLink)

@@ -16,7 +16,7 @@ use Rattle.flow_graph.specs.EventGraphs.{bits_at, passed, has_passed, named_link
 use Rattle.flow_graph.specs.EventGraphs.{named, IsGraphOf}
 use Rattle.flow_graph.proofs.KeptAfterEvent.{passed_push, among_push}
 use Rattle.location_collapse.specs.Limits.{ExceedsLimit, is_same_link}
-use Rattle.location_collapse.specs.LimitLaws.{IsWithinLimits, has_small_capacity}
+use Rattle.location_collapse.specs.Laws.{IsWithinLimits, has_small_capacity}
 use Rattle.flow_base.proofs.PointEquality.{points_alike}
 use Rattle.location_collapse.proofs.EqualityByOrder.{links_alike, any_flipped}
 use Rattle.location_collapse.proofs.CollapseLimits.{all_more, of_members, still_passed}

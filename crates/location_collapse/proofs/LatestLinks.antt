@@ -7,7 +7,7 @@ use Rattle.flow_graph.specs.declared.named_links.NamedLink.{NamedLink}
 use Rattle.flow_graph.specs.declared.named_links.NamedEnd.TheVariants.{At, Relay}
 use Rattle.flow_graph.specs.EventGraphs.{is_among}
 use Rattle.flow_base.specs.PointOrders.{is_same}
-use Rattle.location_collapse.specs.LatestLinks.{has_flow, has_output, is_latest_flow, is_latest_output}
+use Rattle.location_collapse.specs.KeptLinks.{has_flow, has_output, is_latest_flow, is_latest_output}
 use Rattle.flow_base.proofs.PointEquality.{point_eq, points_same}
 use Rattle.flow_base.proofs.PointOrders.{one_if_same}
 use Rattle.location_collapse.proofs.EqualityByOrder.{link_eq, links_same}

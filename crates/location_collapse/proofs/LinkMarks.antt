@@ -11,7 +11,7 @@ use Rattle.flow_graph.specs.declared.named_links.NamedLink.{NamedLink}
 use Rattle.flow_graph.specs.EventGraphs.{is_among}
 use Rattle.flow_graph.specs.Keeping.{TakesLinks}
 use Rattle.indexmap.specs.IndexMap.{IndexMap}
-use Rattle.hinted_map.specs.Places.{StandsAt}
+use Rattle.hinted_map.specs.Maps.{StandsAt}
 use Rattle.hinted_map.proofs.Places.{stands}
 use Rattle.location_collapse.specs.Limits.{is_same_link}
 use Rattle.location_collapse.proofs.EqualityByOrder.{any_flipped, links_alike}

@@ -6,7 +6,7 @@ use Rattle.flow_graph.specs.declared.events.Event.{Event}
 use Rattle.flow_graph.specs.declared.named_links.NamedLink.{NamedLink}
 use Rattle.flow_graph.specs.EventGraphs.{bits_at, links_by}
 use Rattle.flow_graph.specs.Keeping.{Keeps, is_known, is_there}
-use Rattle.location_collapse.specs.LatestLinks.{has_flow, has_output}
+use Rattle.location_collapse.specs.KeptLinks.{has_flow, has_output}
 use Rattle.location_collapse.specs.declared.collapses.Collapse.{Collapse}
 use Rattle.location_collapse.specs.declared.faults.CollapseFault.{CollapseFault}
 use Rattle.location_collapse.specs.declared.faults.CollapseFault.TheVariants.{Limit, Memory}

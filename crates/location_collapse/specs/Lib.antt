@@ -1,6 +1,6 @@
 pub mod Limits
 pub mod Collapses
-pub mod LimitLaws
-pub mod LatestLinks
-pub mod Wants
+pub mod Laws
+pub mod KeptLinks
+pub mod Adding
 pub mod Private

@@ -3,12 +3,12 @@ ghost use Rattle.std.specs.Prelude.{OnOk, OnErr, IfOk, Err};
 ghost use Rattle.std.specs.Bool.{OnTrue};
 ghost use Rattle.flow_graph.specs.declared.events.Event.{Event as AnEvent};
 ghost use Rattle.flow_graph.specs.declared.events.Event.TheVariants.{Pass as PassEvent};
-ghost use Rattle.flow_graph.specs.Again.{again_events};
+ghost use Rattle.flow_graph.specs.Events.{again_events};
 ghost use Rattle.flow_graph.specs.Keeping.{is_there, may_lead};
 ghost use Rattle.location_collapse.specs.Limits.{ExceedsLimit, WantsPoint};
 ghost use Rattle.location_collapse.specs.Collapses.{HasAgainLinks, KeepsAll, MakesLink, StandsFor};
 ghost use Rattle.location_collapse.specs.Collapses.{has_ends, is_limit, knows};
-ghost use Rattle.location_collapse.specs.Wants.{WantsLink, WantsMore};
+ghost use Rattle.location_collapse.specs.Adding.{WantsLink, WantsMore};
 
 use crate::collapses::Collapse;
 use crate::faults::CollapseFault;

@@ -5,8 +5,8 @@ ghost use Rattle.std.specs.Map.{keys_of};
 ghost use Rattle.flow_graph.specs.EventGraphs.{is_among};
 ghost use Rattle.flow_graph.specs.Keeping.{TakesLinks};
 ghost use Rattle.flow_graph.specs.declared.named_links.NamedEnd.TheVariants.{At};
-ghost use Rattle.hinted_map.specs.Places.{StandsAt};
-ghost use Rattle.location_collapse.specs.LatestLinks.{flow_after, has_flow, has_output, is_latest_flow, is_latest_output, output_after};
+ghost use Rattle.hinted_map.specs.Maps.{StandsAt};
+ghost use Rattle.location_collapse.specs.KeptLinks.{flow_after, has_flow, has_output, is_latest_flow, is_latest_output, output_after};
 ghost use Rattle.location_collapse.specs.Limits.{HasAllLinks, is_same_link};
 
 use crate::faults::CollapseFault;

@@ -5,7 +5,7 @@ ghost use Rattle.flow_base.specs.declared.points.Point.{Point as ThePoint};
 ghost use Rattle.flow_base.specs.Words.{bit_count};
 ghost use Rattle.flow_base.specs.PointOrders.{is_same};
 ghost use Rattle.flow_graph.specs.Keeping.{capacity_in, count_in, is_known};
-ghost use Rattle.hinted_map.specs.Places.{StandsAt};
+ghost use Rattle.hinted_map.specs.Maps.{StandsAt};
 ghost use Rattle.location_collapse.specs.Limits.{HasAllPoints, LacksRoom, WantsPoint, is_kept_capacity};
 
 use crate::faults::CollapseFault;

@@ -1,4 +1,4 @@
-ghost use Rattle.location_collapse.specs.LimitLaws.{GraphsExceed, MoreExceed};
+ghost use Rattle.location_collapse.specs.Laws.{GraphsExceed, MoreExceed};
 
 /// No graph of events that exceed a limit is within the limits. It does nothing when it is called.
 pub fn graphs_exceed()

@@ -6,7 +6,7 @@ use Rattle.std.proofs.Common.{take, ◌++◌}
 use Rattle.std.proofs.Math.Seq.{take-append_seam}
 use Rattle.std.proofs.lemmas.List.{nil_from_length}
 use Rattle.crossing_bits.specs.Askers.{Asker, Fed, Fed', Short, feed}
-use Rattle.crossing_bits.specs.Streams.{Stream, left_of}
+use Rattle.crossing_bits.specs.Strings.{Stream, left_of}
 use Rattle.rv32im_machine.specs.declared.stepping.Fault.{Fault}
 use Rattle.rv32im_machine.specs.declared.stepping.Stepped.{Stepped}
 use Rattle.rv32im_machine.specs.declared.stepping.Stepped.TheVariants.{Ran, Exited, Stopped}

@@ -1,7 +1,7 @@
 -- What a turn of the real side leaves of the string of bits.
 use Rattle.std.specs.Prelude.{◌≡◌, ℕ, ◌+◌, ◌≤◌, List, ◌++◌, length, Bool}
 use Rattle.flow_base.specs.declared.points.Point.{Point}
-use Rattle.crossing_bits.specs.Streams.{Stream}
+use Rattle.crossing_bits.specs.Strings.{Stream}
 use Rattle.cut_file.specs.declared.points.CutPoint.{CutPoint}
 use Rattle.rv32im_machine.specs.State.{State}
 use Rattle.rv32im_machine.specs.Playing.{Played, Finished, Halted}

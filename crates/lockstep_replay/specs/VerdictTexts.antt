@@ -2,8 +2,8 @@
 use Rattle.std.specs.Prelude.{ℕ, List, ◌++◌, codes}
 use Rattle.std.specs.Fmt.{decimal}
 use Rattle.enclosure_regions.specs.Texts.{break_text, range_text}
-use Rattle.rv32im_machine.specs.FaultTexts.{stop_text}
-use Rattle.replay_machine.specs.MarkTexts.{mark_text}
+use Rattle.rv32im_machine.specs.Stepping.{stop_text}
+use Rattle.replay_machine.specs.Marks.{mark_text}
 use Rattle.lockstep_replay.specs.declared.verdicts.ReplayStop.{ReplayStop}
 use Rattle.lockstep_replay.specs.declared.verdicts.ReplayStop.TheVariants.{Guest, RangeOutside, Short}
 use Rattle.lockstep_replay.specs.declared.verdicts.Why.{Why}

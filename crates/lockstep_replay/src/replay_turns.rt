@@ -1,5 +1,5 @@
 ghost use Rattle.std.specs.Prelude.{◌≡◌, ℕ, ◌+◌, ◌≤◌, ◌<◌, ◌^◌, ◌++◌, List, length, take, None, IsTrue};
-ghost use Rattle.crossing_bits.specs.Streams.{left_of};
+ghost use Rattle.crossing_bits.specs.Strings.{left_of};
 ghost use Rattle.replay_machine.specs.declared.turns.ReplayTurn.TheVariants.{Ran as ReplayRan};
 ghost use Rattle.replay_machine.specs.Standing.{Stands};
 ghost use Rattle.replay_machine.specs.Runs.{Masks, ReplayPlace as APlace};

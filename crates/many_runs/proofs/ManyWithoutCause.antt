@@ -3,7 +3,7 @@ use Rattle.std.proofs.Common.{ℕ, ◌≤◌, List, refl, arith}
 use Rattle.many_runs.specs.declared.faults.ManyFault.TheVariants.{Length, Run, UnitedLimit, BudgetLimit, Memory}
 use Rattle.many_runs.specs.declared.many.Many.{Many}
 use Rattle.many_runs.specs.Causes.{HasMaximum, HaveUnion, IsTooLarge, IsTooMuch}
-use Rattle.many_runs.specs.Deciding.{MeasuredTogetherHaveNoCause}
+use Rattle.many_runs.specs.Laws.{MeasuredTogetherHaveNoCause}
 use Rattle.many_runs.specs.Measures.{MeasuresTogether, Setup}
 use Rattle.many_runs.proofs.OneMany.{none-refused, same_length, value_most, within-too}
 use Rattle.transfer_rules.specs.Tables.{IsDeciding}

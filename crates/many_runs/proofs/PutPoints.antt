@@ -16,10 +16,10 @@ use Rattle.measuring.specs.declared.kept_visits.KeptVisits.{KeptVisits}
 use Rattle.measuring.specs.declared.point_visits.PointVisits.{PointVisits}
 use Rattle.measuring.specs.declared.recordings.Recording.{Recording}
 use Rattle.measuring.specs.Counts.{column_of, count_at, count_of, is_counted, page_of, row_counts}
-use Rattle.measuring.specs.KeptMasks.{masks_if_any}
+use Rattle.measuring.specs.KeptVisits.{masks_if_any}
 use Rattle.measuring.specs.Visits.{all_masks}
 use Rattle.many_runs.specs.Private.Joining.{recorded_masks}
-use Rattle.many_runs.specs.Private.Places.{point_at}
+use Rattle.many_runs.specs.Private.Points.{point_at}
 use Rattle.many_runs.specs.Uniting.{united_masks}
 use Rattle.many_runs.proofs.Fronts.{is_none, opens}
 use Rattle.many_runs.proofs.JoinedMasks.{none_joined}

@@ -11,7 +11,7 @@ use Rattle.many_runs.specs.Causes.{HasManyCause}
 use Rattle.many_runs.specs.Following.{AreFollowed, is_short_secret}
 use Rattle.many_runs.specs.Measures.{HaveLength, MeasuresTogether, Setup, first_length}
 use Rattle.many_runs.specs.Private.Recordings.{AllKeep, RecordsUnion}
-use Rattle.many_runs.specs.Private.Weighing.{HasFittingEvents, IsWeighFault, WeighsAll}
+use Rattle.many_runs.specs.Private.WeighingAll.{HasFittingEvents, IsWeighFault, WeighsAll}
 use Rattle.many_runs.proofs.FittingRuns.{runs_fit}
 use Rattle.many_runs.proofs.RecordedRuns.{united_too}
 use Rattle.many_runs.proofs.UnitedVisits.{united_fit}

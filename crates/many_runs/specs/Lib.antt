@@ -1,8 +1,8 @@
-pub mod FaultTexts
+pub mod Faults
 pub mod Uniting
 pub mod Measures
 pub mod Causes
 pub mod Accepting
-pub mod Deciding
+pub mod Laws
 pub mod Following
 pub mod Private

@@ -22,7 +22,7 @@ pub enum ManyFault {
 
 impl fmt::Display for ManyFault {
     ghost use Rattle.std.specs.Prelude.{Some};
-    ghost use Rattle.many_runs.specs.FaultTexts.{many_fault_text};
+    ghost use Rattle.many_runs.specs.Faults.{many_fault_text};
 
     ghost output = { λ fault. Some (many_fault_text fault) };
 

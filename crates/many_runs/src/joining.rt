@@ -1,5 +1,5 @@
 ghost use Rattle.std.specs.Prelude.{◌≡◌, ◌++◌, IfOk, OnOk, option_copied};
-ghost use Rattle.measuring.specs.KeptMasks.{masks_if_any};
+ghost use Rattle.measuring.specs.KeptVisits.{masks_if_any};
 ghost use Rattle.measuring.specs.VisitRuns.{run_masks};
 ghost use Rattle.measuring.specs.Visits.{all_masks};
 ghost use Rattle.many_runs.specs.Private.Joining.{recorded_masks};

@@ -2,7 +2,7 @@ ghost use Rattle.std.specs.Prelude.{◌≤◌, length, IsTrue};
 ghost use Rattle.std.specs.List.{list_all};
 ghost use Rattle.max_flow.specs.Flows.{is_small};
 ghost use Rattle.measuring.specs.CutRuns.{points_of};
-ghost use Rattle.measuring.specs.Limits.{are_points_in, has_slot};
+ghost use Rattle.measuring.specs.Measured.{are_points_in, has_slot};
 
 use cut_file::Cut;
 use flow_graph::Graph;

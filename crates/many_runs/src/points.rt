@@ -8,7 +8,7 @@ ghost use Rattle.flow_base.specs.PointOrders.{is_same, point_cmp};
 ghost use Rattle.measuring.specs.Counts.{count_at};
 ghost use Rattle.measuring.specs.Visits.{all_masks};
 ghost use Rattle.many_runs.specs.Private.Joining.{recorded_masks};
-ghost use Rattle.many_runs.specs.Private.Places.{point_at};
+ghost use Rattle.many_runs.specs.Private.Points.{point_at};
 
 use flow_base::{List, NoMemory, Point};
 use indexmap::IndexMap;

@@ -1,5 +1,5 @@
 ghost use Rattle.std.specs.Prelude.{◌≡◌, ◌≤◌, IfErr, IfOk};
-ghost use Rattle.many_runs.specs.Private.Weighing.{HasFittingEvents, IsWeighFault, WeighsAll};
+ghost use Rattle.many_runs.specs.Private.WeighingAll.{HasFittingEvents, IsWeighFault, WeighsAll};
 
 use crate::faults::ManyFault;
 use crate::many::Many;

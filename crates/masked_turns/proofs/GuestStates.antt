@@ -5,7 +5,7 @@ use Rattle.rv32im_machine.specs.declared.language.Place.{Place}
 use Rattle.rv32im_machine.specs.declared.language.Place.TheVariants.{Byte, Register}
 use Rattle.rv32im_machine.specs.Language.{at_place, none_held}
 use Rattle.rv32im_machine.specs.State.{Control, Setting, Store}
-use Rattle.acceptance_law.specs.Proper.{AreBytes, IsProperGuest, place_limit}
+use Rattle.acceptance_law.specs.Inputs.{AreBytes, IsProperGuest, place_limit}
 use Rattle.acceptance_law.proofs.StepsKeepStanding.{state_of}
 
 pub guest_within : (setting : Setting) (secret : List ℕ) (control : Control) (store : Store) → AreBytes secret →

@@ -6,7 +6,7 @@ use Rattle.rv32im_machine.specs.declared.language.Seen.TheVariants.{Word, Base}
 use Rattle.rv32im_machine.specs.State.{Store}
 use Rattle.rv32im_machine.specs.Language.{Held, seen_value}
 use Rattle.run_labels.specs.TurnLabels.{TurnLabels}
-use Rattle.acceptance_law.specs.Proper.{IsLook}
+use Rattle.acceptance_law.specs.Inputs.{IsLook}
 use Rattle.acceptance_law.specs.Sides.{NamedSide}
 use Rattle.acceptance_law.proofs.Turns.{base_clean, word_clean, word_equal}
 use Rattle.acceptance_law.proofs.WritesKeepRelation.{Beside, close_equal}

@@ -13,7 +13,7 @@ use Rattle.replay_machine.specs.Runs.{mask_at}
 use Rattle.run_labels.specs.TurnLabels.{TurnLabels, label_at, put_label}
 use Rattle.shadow_masks.specs.Pages.{label_of}
 use Rattle.transfer_rules.specs.Table1.{flipped}
-use Rattle.acceptance_law.specs.Proper.{place_limit}
+use Rattle.acceptance_law.specs.Inputs.{place_limit}
 use Rattle.acceptance_law.proofs.AgreeOutsideMask.{patched_uncrossed}
 use Rattle.acceptance_law.proofs.Outputs.{Output, output_place, output_slot, IsOutput, waits_put}
 use Rattle.acceptance_law.proofs.Passings.{patched_slot, slot_agree, slot_word}

@@ -9,7 +9,7 @@ use Rattle.rv32im_machine.specs.Language.{Held, hold, put}
 use Rattle.rv32im_machine.specs.State.{Store}
 use Rattle.run_labels.specs.TurnLabels.{TurnLabels, put_label}
 use Rattle.shadow_masks.specs.Pages.{label_of}
-use Rattle.acceptance_law.specs.Proper.{FitsPlace, place_limit}
+use Rattle.acceptance_law.specs.Inputs.{FitsPlace, place_limit}
 use Rattle.acceptance_law.proofs.AgreeOutsideMask.{agree_zero}
 use Rattle.acceptance_law.proofs.Turns.{label_of_limit}
 use Rattle.acceptance_law.proofs.WritesKeepRelation.{Beside, put_beside}

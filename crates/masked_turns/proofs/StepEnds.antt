@@ -16,7 +16,7 @@ use Rattle.shadow_masks.specs.Labels.{clean}
 use Rattle.shadow_masks.specs.Writes.{default_map}
 use Rattle.run_labels.specs.Masks.{answers_after, moved_label}
 use Rattle.run_labels.specs.TurnLabels.{TurnLabels, at_start, put_label}
-use Rattle.acceptance_law.specs.Proper.{AreBytes, IsProperPlace, place_limit, IsProper}
+use Rattle.acceptance_law.specs.Inputs.{AreBytes, IsProperPlace, place_limit, IsProper}
 use Rattle.acceptance_law.proofs.WritesKeepRelation.{put_limits, put_registers, put_memory, put_kept, put_label_kept, not_alike}
 use Rattle.acceptance_law.proofs.Passings.{slot_word, made_fits}
 use Rattle.acceptance_law.proofs.Turns.{seen_word}

@@ -8,7 +8,7 @@ use Rattle.flow_graph.specs.declared.ends.End.{End}
 use Rattle.flow_graph.specs.declared.ends.End.TheVariants.{Source, Point, Relay, Sink}
 use Rattle.flow_graph.specs.declared.graphs.Graph.{Graph}
 use Rattle.flow_graph.specs.Graphs.{is_origin, is_target, is_link}
-use Rattle.max_flow.specs.NodeNumbers.{tail_of, head_of}
+use Rattle.max_flow.specs.Building.{tail_of, head_of}
 use Rattle.max_flow.specs.Private.GraphNetworks.{network_of, relay_room, small_network_of}
 use Rattle.max_flow.specs.Private.Networks.{IsFlow, IsNet, IsSide, capacity_of}
 use Rattle.max_flow.specs.Private.Rooms.{HasSmallSide, IsLeast}

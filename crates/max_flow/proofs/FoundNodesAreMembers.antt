@@ -12,13 +12,13 @@ use Rattle.flow_graph.specs.declared.graphs.Graph.{Graph}
 use Rattle.flow_graph.specs.Graphs.{is_origin, is_target, is_link, is_relay}
 use Rattle.max_flow.specs.declared.answers.Half.{Half}
 use Rattle.max_flow.specs.Private.Networks.{IsNet, IsSide, capacity_of, leaves}
-use Rattle.max_flow.specs.NodeNumbers.{tail_of, head_of}
+use Rattle.max_flow.specs.Building.{tail_of, head_of}
 use Rattle.max_flow.specs.Private.GraphNetworks.{network_of}
 use Rattle.max_flow.proofs.Members.{member}
-use Rattle.max_flow.specs.Private.Marks.{marks}
+use Rattle.max_flow.specs.Private.Sides.{marks}
 use Rattle.max_flow.specs.Flows.{relay_in, has_first}
 use Rattle.max_flow.specs.Flows.{has_second}
-use Rattle.max_flow.specs.Private.Marks.{found_marks}
+use Rattle.max_flow.specs.Private.Sides.{found_marks}
 use Rattle.max_flow.specs.Private.Searching.{is_found}
 use Rattle.max_flow.proofs.Sums.{sum_same}
 use Rattle.max_flow.proofs.Graphs.{ends_hold, graph_net}

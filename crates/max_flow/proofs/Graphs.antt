@@ -13,7 +13,7 @@ use Rattle.flow_graph.specs.Graphs.{is_origin, is_target, is_link}
 use Rattle.max_flow.specs.Private.Networks.{IsNet}
 use Rattle.max_flow.specs.Private.Rooms.{AreFew}
 use Rattle.max_flow.specs.Private.GraphNetworks.{halves_from, network_of}
-use Rattle.max_flow.specs.NodeNumbers.{tail_of, head_of}
+use Rattle.max_flow.specs.Building.{tail_of, head_of}
 
 pub length_halves : (start n : ℕ) → length (halves_from start n) ≡ n
 unfolding halves_from

@@ -3,7 +3,7 @@ use Rattle.std.proofs.Common.{◌≡◌, ◌≢◌, ℕ, ◌-◌, ◌≤◌, ◌
 use Rattle.std.proofs.Common.{⊎_elim, arith}
 use Rattle.std.proofs.lemmas.Bool.{cases_eq, cases_lt, eq-eqb, ne_eqb, cond-true, cond-false}
 use Rattle.max_flow.specs.Private.Networks.{Net, IsNet, IsFlow, at_node, sum_below}
-use Rattle.max_flow.specs.Private.Adjacency.{IsLast, AreChains}
+use Rattle.max_flow.specs.Private.Chains.{IsLast, AreChains}
 use Rattle.max_flow.specs.Private.Searching.{HasNoInflow}
 use Rattle.max_flow.proofs.Sums.{sum_zero, sum_item}
 

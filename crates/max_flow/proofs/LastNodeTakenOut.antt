@@ -5,9 +5,9 @@ use Rattle.std.proofs.lemmas.Bool.{cases_eq, cases_lt, eq-eqb, ne_eqb, cond-true
 use Rattle.std.proofs.lemmas.List.{length-set, get_or-set_same, get_or-set_other, length-take, get_or-take, get_or_past}
 use Rattle.max_flow.specs.Private.Networks.{Net, sum_below}
 use Rattle.max_flow.specs.Private.Rooms.{other_end}
-use Rattle.max_flow.specs.Private.Adjacency.{IsLast, AreChains}
+use Rattle.max_flow.specs.Private.Chains.{IsLast, AreChains}
 use Rattle.max_flow.specs.Private.Searching.{IsFound, IsStart, unfound}
-use Rattle.max_flow.specs.Private.Stacks.{IsStack, AreCursors}
+use Rattle.max_flow.specs.Private.Deepening.{IsStack, AreCursors}
 use Rattle.max_flow.proofs.Sums.{sum_changed}
 
 pub stack_of : (net : Net) (flow places arrivals rooms queue : List ℕ) → IsFound net flow places arrivals rooms queue →

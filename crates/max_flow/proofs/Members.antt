@@ -9,8 +9,8 @@ use Rattle.flow_graph.specs.declared.graphs.Graph.{Graph}
 use Rattle.flow_graph.specs.Graphs.{is_origin, is_target}
 use Rattle.max_flow.specs.declared.answers.Half.{Half}
 use Rattle.max_flow.specs.Flows.{has_first, has_second, relay_in, first_in, second_in, left_in, entered_in}
-use Rattle.max_flow.specs.NodeNumbers.{tail_of, head_of}
-use Rattle.max_flow.specs.Private.Marks.{marks}
+use Rattle.max_flow.specs.Building.{tail_of, head_of}
+use Rattle.max_flow.specs.Private.Sides.{marks}
 
 -- whether a node is in a side: the source is, the sink is not
 abbrev pub member : Graph → List Half → List Bool → ℕ → Bool

@@ -12,7 +12,7 @@ use Rattle.flow_graph.specs.declared.ends.End.TheVariants.{Source, Point, Relay,
 use Rattle.flow_graph.specs.declared.graphs.Graph.{Graph}
 use Rattle.flow_graph.specs.Graphs.{is_origin, is_target, is_link}
 use Rattle.max_flow.specs.Flows.{IsFlowOf, at_point, at_relay, at_source, flow_into, flow_out, flow_value, sum_where}
-use Rattle.max_flow.specs.NodeNumbers.{tail_of, head_of}
+use Rattle.max_flow.specs.Building.{tail_of, head_of}
 use Rattle.max_flow.specs.Private.GraphNetworks.{halves_from, network_of}
 use Rattle.max_flow.specs.Private.Networks.{IsFlow, at_node, source_flow, sum_below}
 use Rattle.max_flow.proofs.Graphs.{all_map, edges_count, graph_net, half_at, length_halves}

@@ -11,7 +11,7 @@ use Rattle.max_flow.specs.declared.answers.Half.{Half}
 use Rattle.max_flow.specs.declared.answers.Half.TheVariants.{Neither}
 use Rattle.max_flow.specs.Flows.{IsFlowOf, IsSideOf, entered_in, first_in, flow_value, is_cut, leads_out, left_in}
 use Rattle.max_flow.specs.Flows.{side_capacity}
-use Rattle.max_flow.specs.NodeNumbers.{tail_of, head_of}
+use Rattle.max_flow.specs.Building.{tail_of, head_of}
 use Rattle.max_flow.specs.Private.GraphNetworks.{halves_from, network_of}
 use Rattle.max_flow.specs.Private.Networks.{IsSide, capacity_of, leaves, sum_below}
 use Rattle.max_flow.proofs.Graphs.{edges_count, graph_net, half_at, length_halves}

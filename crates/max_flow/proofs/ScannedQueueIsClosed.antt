@@ -4,7 +4,7 @@ use Rattle.std.proofs.Common.{slice_index, refl, sym, ap, ◌∙◌, subst, ⊎_
 use Rattle.std.proofs.lemmas.Bool.{cases_eq, cases_lt, ltb-true, lt-ltb, eq-eqb, ne_eqb, cond-true, cond-false}
 use Rattle.max_flow.specs.Private.Networks.{Net, IsNet}
 use Rattle.max_flow.specs.Private.Rooms.{bound, IsClosed}
-use Rattle.max_flow.specs.Private.Adjacency.{IsLast, AreChains}
+use Rattle.max_flow.specs.Private.Chains.{IsLast, AreChains}
 use Rattle.max_flow.specs.Private.Searching.{IsFound, HasGrown, HasLeft, HasEntered, IsScanned, Reaches, is_found}
 
 pub left_first : (net : Net) (flow places : List ℕ) (at c : ℕ) → IsLast net.tails (length net.tails) at c →

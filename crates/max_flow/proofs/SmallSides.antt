@@ -14,7 +14,7 @@ use Rattle.flow_graph.specs.Graphs.{is_origin, is_target, is_link, leads_on}
 use Rattle.max_flow.specs.Private.Networks.{capacity_of, leaves, sum_below}
 use Rattle.max_flow.specs.Private.Rooms.{HasSmallSide}
 use Rattle.max_flow.specs.Private.GraphNetworks.{halves_from, network_of}
-use Rattle.max_flow.specs.NodeNumbers.{tail_of, head_of}
+use Rattle.max_flow.specs.Building.{tail_of, head_of}
 use Rattle.max_flow.specs.Flows.{is_small, IsWithinLimits}
 use Rattle.max_flow.proofs.Graphs.{length_halves, all_map}
 

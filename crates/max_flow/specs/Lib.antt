@@ -1,4 +1,4 @@
 pub mod Flows
-pub mod NodeNumbers
+pub mod Building
 pub mod Laws
 pub mod Private

@@ -2,9 +2,9 @@
 pub mod Networks
 pub mod GraphNetworks
 pub mod Rooms
-pub mod Adjacency
+pub mod Chains
 pub mod Searching
 pub mod Solving
-pub mod Marks
-pub mod Stacks
+pub mod Sides
+pub mod Deepening
 pub mod Balances

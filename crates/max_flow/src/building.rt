@@ -2,7 +2,7 @@ ghost use Rattle.std.specs.Prelude.{◌≡◌, ◌+◌, ◌*◌, ◌^◌, ◌<�
 ghost use Rattle.std.specs.List.{list_all};
 ghost use Rattle.max_flow.specs.Flows.{IsWithinLimits, is_small};
 ghost use Rattle.max_flow.specs.Private.GraphNetworks.{halves_from, network_of, relay_room, small_network_of};
-ghost use Rattle.max_flow.specs.NodeNumbers.{head_of, tail_of};
+ghost use Rattle.max_flow.specs.Building.{head_of, tail_of};
 ghost use Rattle.max_flow.specs.Private.Rooms.{AreFew};
 ghost use Rattle.max_flow.specs.Private.Solving.{net_of, IsNetwork};
 

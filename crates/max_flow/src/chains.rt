@@ -1,5 +1,5 @@
 ghost use Rattle.std.specs.Prelude.{◌≡◌, ℕ, ◌-◌, ◌^◌, ◌<◌, ◌≤◌, length, slice_index, replicate, IfOk};
-ghost use Rattle.max_flow.specs.Private.Adjacency.{AreChains};
+ghost use Rattle.max_flow.specs.Private.Chains.{AreChains};
 ghost use Rattle.max_flow.specs.Private.Solving.{AreZeros};
 
 use flow_base::NoMemory;

@@ -4,7 +4,7 @@ ghost use Rattle.max_flow.specs.Private.Networks.{IsFlow, source_flow};
 ghost use Rattle.max_flow.specs.Private.Rooms.{HasSmallSide, IsBounded};
 ghost use Rattle.max_flow.specs.Private.Searching.{IsStart};
 ghost use Rattle.max_flow.specs.Private.Solving.{net_of, IsNetwork, IsRoomy, IsTree};
-ghost use Rattle.max_flow.specs.Private.Stacks.{AreCursors, IsStack};
+ghost use Rattle.max_flow.specs.Private.Deepening.{AreCursors, IsStack};
 
 use crate::augmenting::augment;
 use crate::networks::Network;

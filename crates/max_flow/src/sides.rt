@@ -1,9 +1,9 @@
 ghost use Rattle.std.specs.Prelude.{◌≡◌, ◌+◌, ◌*◌, ◌≤◌, map, length, IfOk, take, drop};
 ghost use Rattle.max_flow.specs.Flows.{has_first, has_second};
 ghost use Rattle.max_flow.specs.Private.GraphNetworks.{relay_room};
-ghost use Rattle.max_flow.specs.Private.Marks.{marks};
+ghost use Rattle.max_flow.specs.Private.Sides.{marks};
 ghost use Rattle.max_flow.specs.Private.Searching.{is_found};
-ghost use Rattle.max_flow.specs.Private.Marks.{found_marks};
+ghost use Rattle.max_flow.specs.Private.Sides.{found_marks};
 
 use crate::answers::{Flow, Half, Side};
 use flow_base::{List, NoMemory};

@@ -6,16 +6,16 @@ use Rattle.std.proofs.lemmas.List.{append-nil, replicate-append-replicate}
 use Rattle.flow_base.specs.declared.points.Point.{Point}
 use Rattle.flow_graph.specs.declared.events.Event.{Event}
 use Rattle.flow_graph.specs.declared.events.Event.TheVariants.{Pass, Link, FromSecret, Implicit, Out}
-use Rattle.flow_graph.specs.Again.{again_events}
+use Rattle.flow_graph.specs.Events.{again_events}
 use Rattle.flow_base.specs.PointOrders.{is_same}
 use Rattle.acceptance_law.specs.RunCuts.{visit_masks, mask_at_event}
-use Rattle.hinted_map.specs.Places.{Puts}
+use Rattle.hinted_map.specs.Maps.{Puts}
 use Rattle.flow_base.proofs.PointEquality.{points_alike, same_tests}
 use Rattle.measuring.specs.declared.point_visits.PointVisits.{PointVisits}
 use Rattle.measuring.specs.declared.point_visits.VisitRun.{VisitRun}
 use Rattle.measuring.specs.declared.kept_visits.KeptVisits.{KeptVisits}
 use Rattle.measuring.specs.PointMasks.{point_masks}
-use Rattle.measuring.specs.KeptMasks.{Adds, kept_masks, masks_if_any}
+use Rattle.measuring.specs.KeptVisits.{Adds, kept_masks, masks_if_any}
 use Rattle.measuring.specs.Visits.{AddsVisit, HasVisits, Settles, all_masks}
 use Rattle.measuring.specs.declared.visit_counts.VisitCounts.{VisitCounts}
 use Rattle.measuring.specs.Counts.{Clears, CountsMore, count_of}

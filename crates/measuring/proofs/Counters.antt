@@ -12,7 +12,7 @@ use Rattle.flow_base.specs.contracts.points.SlotPartialEq.TheImpl as slot_eq_imp
 use Rattle.flow_base.proofs.PointOrders.{one_if_same}
 use Rattle.flow_base.specs.Points.{is_output_slot}
 use Rattle.flow_base.specs.PointOrders.{is_same}
-use Rattle.hinted_map.specs.Places.{Puts}
+use Rattle.hinted_map.specs.Maps.{Puts}
 use Rattle.flow_base.proofs.PointEquality.{point_eq, points_same, same_tests}
 use Rattle.measuring.specs.declared.counter_rows.Row.{Row}
 use Rattle.measuring.specs.declared.visit_counts.VisitCounts.{VisitCounts}

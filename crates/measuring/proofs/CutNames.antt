@@ -16,7 +16,7 @@ use Rattle.acceptance_law.specs.RunCuts.{is_inner, names_point}
 use Rattle.acceptance_law.specs.Sides.{halves_at}
 use Rattle.flow_base.proofs.PointEquality.{points_alike}
 use Rattle.measuring.specs.CutRuns.{points_of}
-use Rattle.measuring.specs.Limits.{are_points_in, is_point_in}
+use Rattle.measuring.specs.Measured.{are_points_in, is_point_in}
 use Rattle.measuring.specs.Splits.{is_cut, split_points}
 use Rattle.flow_base.proofs.PointOrders.{below_other}
 use Rattle.measuring.proofs.Orders.{inner_alike}

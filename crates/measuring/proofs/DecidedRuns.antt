@@ -21,7 +21,7 @@ use Rattle.run_labels.specs.Masks.{aimed_mask, answers_after, mask_of, masks_of,
 use Rattle.run_labels.specs.Runs.{LabelledRun, EachRunAnswer, broken_fault, enclosing, entered_number, next_run}
 use Rattle.run_labels.specs.Runs.{next_walk, run_after, stopped_fault}
 use Rattle.run_labels.specs.TurnLabels.{TurnLabels, aim_label, at_start, put_label, save_labels, restore_labels}
-use Rattle.measuring.specs.Deciding.{RunsAreDecided, RefusalsAreDecided}
+use Rattle.measuring.specs.Laws.{RunsAreDecided, RefusalsAreDecided}
 use Rattle.std.specs.Option.{option_or}
 use Rattle.transfer_rules.specs.Tables.{IsDeciding}
 use Rattle.run_labels.proofs.TableAnswers.{same_work}

@@ -23,7 +23,7 @@ use Rattle.acceptance_law.specs.VisitLaws.{FitCuts}
 use Rattle.acceptance_law.proofs.GraphCapacities.{capacity_law}
 use Rattle.measuring.specs.declared.kept_visits.KeptVisits.{KeptVisits}
 use Rattle.measuring.specs.Cutting.{FitsCut}
-use Rattle.measuring.specs.Limits.{has_slot, is_point_in}
+use Rattle.measuring.specs.Measured.{has_slot, is_point_in}
 use Rattle.measuring.specs.Splits.{skipped, split_points}
 use Rattle.measuring.specs.Visits.{HasVisits}
 use Rattle.measuring.proofs.CutNames.{own_points, split_listed}

@@ -25,7 +25,7 @@ use Rattle.location_collapse.proofs.CollapseLimits.{not_exceeding}
 use Rattle.flow_base.proofs.PointEquality.{points_alike}
 use Rattle.max_flow.specs.Flows.{IsWithinLimits, is_small}
 use Rattle.measuring.specs.declared.recordings.Recording.{Recording}
-use Rattle.measuring.specs.Limits.{is_point_in}
+use Rattle.measuring.specs.Measured.{is_point_in}
 use Rattle.measuring.specs.Recordings.{HasEvents}
 use Rattle.measuring.proofs.NamedLinks.{links_differ, own_links}
 use Rattle.flow_base.proofs.PointOrders.{below_other}

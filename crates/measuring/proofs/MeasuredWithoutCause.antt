@@ -24,7 +24,7 @@ use Rattle.run_labels.specs.declared.faults.MeasureFault.TheVariants.{SecretCode
 use Rattle.flow_base.specs.declared.outputs.Output.{Output}
 use Rattle.location_collapse.specs.Limits.{ExceedsLimit}
 use Rattle.measuring.specs.declared.measured.Measured.{Measured}
-use Rattle.measuring.specs.Deciding.{MeasuredHaveNoCause}
+use Rattle.measuring.specs.Laws.{MeasuredHaveNoCause}
 use Rattle.measuring.specs.Measures.{IsTooLarge, Measures}
 use Rattle.measuring.specs.RunCauses.{Exits, GoesOn, IsRefused, mode_of}
 use Rattle.measuring.proofs.DecidedRuns.{runs_are_decided, refusals_are_decided}

@@ -5,9 +5,9 @@ use Rattle.std.proofs.lemmas.Bool.{cases_Bool, false≢true}
 use Rattle.flow_base.specs.declared.points.Point.{Point}
 use Rattle.flow_graph.specs.declared.events.Event.{Event}
 use Rattle.flow_graph.specs.declared.events.Event.TheVariants.{Pass}
-use Rattle.flow_graph.specs.Again.{again_events}
+use Rattle.flow_graph.specs.Events.{again_events}
 use Rattle.location_collapse.specs.Collapses.{StandsFor, is_limit}
-use Rattle.location_collapse.specs.LimitLaws.{MoreExceed}
+use Rattle.location_collapse.specs.Laws.{MoreExceed}
 use Rattle.location_collapse.specs.Limits.{ExceedsLimit}
 use Rattle.location_collapse.specs.declared.collapses.Collapse.{Collapse}
 use Rattle.location_collapse.specs.declared.faults.CollapseFault.{CollapseFault}

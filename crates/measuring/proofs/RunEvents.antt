@@ -21,7 +21,7 @@ use Rattle.measuring.specs.declared.following.Exit.{Exit}
 use Rattle.measuring.specs.declared.recordings.Recording.{Recording}
 use Rattle.measuring.specs.Cutting.{FitsCut}
 use Rattle.measuring.specs.Following.{HasEnded}
-use Rattle.measuring.specs.Limits.{has_slot}
+use Rattle.measuring.specs.Measured.{has_slot}
 use Rattle.measuring.specs.Private.Weighing.{HasRunEvents}
 use Rattle.measuring.specs.Recordings.{HasEvents}
 use Rattle.measuring.specs.Splits.{skipped, split_points}

@@ -6,7 +6,7 @@ use Rattle.flow_base.specs.PointOrders.{is_same}
 use Rattle.acceptance_law.specs.RunCuts.{visit_masks}
 use Rattle.measuring.specs.Counts.{count_of}
 use Rattle.measuring.specs.declared.kept_visits.KeptVisits.{KeptVisits}
-use Rattle.measuring.specs.KeptMasks.{kept_masks}
+use Rattle.measuring.specs.KeptVisits.{kept_masks}
 
 -- those that are kept in runs, and then as many 0 as are counted
 abbrev pub all_masks : KeptVisits → Point → List ℕ

@@ -2,7 +2,7 @@ ghost use Rattle.std.specs.Prelude.{◌≡◌, ◌+◌, ◌<◌, ◌==◌, ◌&&
 ghost use Rattle.std.specs.Map.{lookup};
 ghost use Rattle.flow_base.specs.declared.points.Point.{Point as ThePoint};
 ghost use Rattle.flow_base.specs.PointOrders.{is_same};
-ghost use Rattle.hinted_map.specs.Places.{StandsAt};
+ghost use Rattle.hinted_map.specs.Maps.{StandsAt};
 ghost use Rattle.measuring.specs.Counts.{Clears, CountsMore, WantsRow, count_at, count_of, has_room};
 ghost use Rattle.measuring.specs.Counts.{is_counted as counts_there, page_of as the_page_of};
 

@@ -4,8 +4,8 @@ ghost use Rattle.std.specs.Map.{lookup};
 ghost use Rattle.flow_base.specs.declared.points.Point.{Point as ThePoint};
 ghost use Rattle.flow_graph.specs.declared.events.Event.{Event as AnEvent};
 ghost use Rattle.flow_base.specs.PointOrders.{is_same};
-ghost use Rattle.hinted_map.specs.Places.{StandsAt};
-ghost use Rattle.measuring.specs.KeptMasks.{Adds};
+ghost use Rattle.hinted_map.specs.Maps.{StandsAt};
+ghost use Rattle.measuring.specs.KeptVisits.{Adds};
 ghost use Rattle.measuring.specs.Visits.{AddsVisit, HasVisits, Settles, all_masks};
 ghost use Rattle.measuring.specs.VisitRuns.{is_visit_run};
 

@@ -33,7 +33,7 @@ impl Recording {
 impl Events for Recording {
     ghost use Rattle.std.specs.Prelude.{◌++◌, ◌∷◌, [], List as Seq, OnOk};
     ghost use Rattle.flow_graph.specs.declared.events.Event.{Event as AnEvent};
-    ghost use Rattle.flow_graph.specs.Again.{again_events};
+    ghost use Rattle.flow_graph.specs.Events.{again_events};
     ghost use Rattle.measuring.specs.Recordings.{Records};
 
     ghost stands_for = { λ recording events. Records recording events };

@@ -14,7 +14,7 @@ use Rattle.region_machine.specs.Enclosures.{Kind, Leaves, Steps}
 use Rattle.region_learn.specs.declared.notes.Notes.{Notes}
 use Rattle.region_learn.specs.Private.Books.{BookAfter, NotesAfter, are_own}
 use Rattle.region_learn.specs.Private.Marks.{has_bit}
-use Rattle.region_learn.specs.Private.Noting.{Notes-walk, has_place, noted_of}
+use Rattle.region_learn.specs.Private.Notes.{Notes-walk, has_place, noted_of}
 use Rattle.region_learn.specs.Written.{is_leave_of, is_step_in, walk_writes}
 use Rattle.region_learn.proofs.BookPlaces.{one_place}
 

@@ -12,7 +12,7 @@ use Rattle.enclosure_regions.specs.Regions.{ids_of}
 use Rattle.region_learn.specs.declared.notes.Notes.{Notes}
 use Rattle.region_learn.specs.Private.Books.{BookOf, IsFresh, IsNew, NotesOf, numbers_of}
 use Rattle.region_learn.specs.Private.Marks.{has_bit, marks_have}
-use Rattle.region_learn.specs.Private.Noting.{has_place}
+use Rattle.region_learn.specs.Private.Notes.{has_place}
 use Rattle.region_learn.specs.Written.{some_turn}
 
 and_none : (b : Bool) → (b && false) ≡ false

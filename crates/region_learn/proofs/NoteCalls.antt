@@ -13,7 +13,7 @@ use Rattle.rv32im_machine.specs.Playing.{Played, Finished, Halted}
 use Rattle.enclosure_regions.specs.declared.break_kinds.Place.{Place}
 use Rattle.region_learn.specs.declared.notes.Halt.{Halt}
 use Rattle.region_learn.specs.declared.notes.Halt.TheVariants.{Call, Memory}
-use Rattle.region_learn.specs.Private.Noting.{Noted, NotesPlay}
+use Rattle.region_learn.specs.Private.Notes.{Noted, NotesPlay}
 use Rattle.region_learn.specs.Written.{is_number_slot, is_written_place, puts_into, walk_calls, walk_writes}
 
 -- what is written here is noted, and nothing else

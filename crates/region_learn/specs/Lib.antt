@@ -1,5 +1,5 @@
 pub mod RegionTexts
-pub mod FaultTexts
+pub mod Faults
 pub mod Written
 pub mod Learnt
 pub mod LearnAnswers

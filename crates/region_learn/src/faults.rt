@@ -26,7 +26,7 @@ pub enum LearnFault {
 
 impl fmt::Display for LearnFault {
     ghost use Rattle.std.specs.Prelude.{Some};
-    ghost use Rattle.region_learn.specs.FaultTexts.{learn_fault_text};
+    ghost use Rattle.region_learn.specs.Faults.{learn_fault_text};
 
     ghost output = { λ fault. Some (learn_fault_text fault) };
 

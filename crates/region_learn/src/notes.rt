@@ -3,7 +3,7 @@ ghost use Rattle.rv32im_machine.specs.Playing.{IsPlace};
 ghost use Rattle.enclosure_regions.specs.declared.break_kinds.Place.{Place as ThePlace};
 ghost use Rattle.enclosure_regions.specs.Breaks.{has_changed};
 ghost use Rattle.region_learn.specs.Private.Marks.{has_bit as has_bit_of};
-ghost use Rattle.region_learn.specs.Private.Noting.{Noted, has_place};
+ghost use Rattle.region_learn.specs.Private.Notes.{Noted, has_place};
 ghost use Rattle.region_learn.specs.Written.{is_number_slot, is_written_place};
 
 use crate::bits::with_bit;
@@ -109,7 +109,7 @@ impl Notes {
 
 impl Passer for Notes {
     ghost use Rattle.std.specs.Prelude.{Some};
-    ghost use Rattle.region_learn.specs.Private.Noting.{Noted, NotesPlay, noted_of, notes_Ended};
+    ghost use Rattle.region_learn.specs.Private.Notes.{Noted, NotesPlay, noted_of, notes_Ended};
 
     type Stop = Halt;
 

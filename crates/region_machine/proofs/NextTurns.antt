@@ -8,7 +8,7 @@ use Rattle.enclosure_regions.specs.declared.region_parts.Region.{Region}
 use Rattle.enclosure_regions.specs.Turns.{entry_at, turn_kind}
 use Rattle.enclosure_regions.specs.Watching.{is_one_of, region_at}
 use Rattle.region_machine.specs.Enclosures.{kind_outside, kind_within}
-use Rattle.region_machine.specs.NextTurns.{NextTurnLaw, kind_told}
+use Rattle.region_machine.specs.Laws.{NextTurnLaw, kind_told}
 
 seam : (before : List Region) (region : Region) (more : List Region) →
     slice_get (before ++ (region ∷ more)) (length before) ≡ Some region

@@ -5,7 +5,7 @@ pub mod Within
 pub mod Runs
 pub mod Starts
 pub mod Guards
-pub mod NextTurns
+pub mod Laws
 pub mod Pairs
 pub mod AddressMarks
 pub mod Private

@@ -1,7 +1,7 @@
 ghost use Rattle.rv32im_machine.specs.Language.{Walk};
 ghost use Rattle.rv32im_machine.specs.Playing.{Finished, Halted};
 ghost use Rattle.rv32im_machine.specs.State.{State};
-ghost use Rattle.region_machine.specs.NextTurns.{NextTurnLaw};
+ghost use Rattle.region_machine.specs.Laws.{NextTurnLaw};
 ghost use Rattle.region_machine.specs.Pairs.{Tapes};
 ghost use Rattle.region_machine.specs.declared.pair_stops.PairStop.TheVariants.{First, Second};
 

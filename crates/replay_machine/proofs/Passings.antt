@@ -4,7 +4,7 @@ use Rattle.std.proofs.Common.{◌∙◌, subst, sym, arith, [], ◌∷◌, Resul
 use Rattle.flow_base.specs.declared.points.Point.{Point}
 use Rattle.flow_base.specs.Words.{bit_count, patched}
 use Rattle.crossing_bits.specs.Askers.{Asker, Asks, Over, Fed, Fed', Short, feed}
-use Rattle.crossing_bits.specs.Streams.{Stream, left_of}
+use Rattle.crossing_bits.specs.Strings.{Stream, left_of}
 use Rattle.crossing_bits.proofs.Feeding.{feed_enough, feed_few}
 use Rattle.rv32im_machine.specs.State.{State}
 use Rattle.rv32im_machine.specs.Playing.{Played, Finished, Halted, outcome}

@@ -13,7 +13,7 @@ use Rattle.cut_file.specs.Cuts.{are_points, are_runs, have_other_masks, is_cut_p
 use Rattle.cut_file.specs.Cuts.{stands_before, is_word}
 use Rattle.cut_file.specs.Masks.{MaskAt, listed_masks, mask_of, repeated}
 use Rattle.cut_file.proofs.MaskLists.{repeated_here, repeated_behind}
-use Rattle.replay_machine.specs.Private.Trims.{trimmed, trimmed_to, without_last}
+use Rattle.replay_machine.specs.Private.Copies.{trimmed, trimmed_to, without_last}
 use Rattle.replay_machine.specs.Visits.{SameAhead}
 use Rattle.replay_machine.proofs.RunsAhead.{masked, run_of, rest_known, runs_known, run_count}
 

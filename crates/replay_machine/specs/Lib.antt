@@ -4,5 +4,5 @@ pub mod Starts
 pub mod Visits
 pub mod Tables
 pub mod Standing
-pub mod MarkTexts
+pub mod Marks
 pub mod Private

@@ -1,4 +1,4 @@
 -- Definitions that only functions of this crate have in their contracts; no public contract stands on them.
 pub mod Sides
-pub mod Ends
-pub mod Trims
+pub mod Replaying
+pub mod Copies

@@ -3,7 +3,7 @@ use Rattle.std.specs.Prelude.{◌≡◌, ℕ, zero, suc, ◌+◌, ◌-◌, ◌^�
 use Rattle.std.specs.Prelude.{Some, None}
 use Rattle.cut_file.specs.declared.points.CutPoint.{CutPoint}
 use Rattle.crossing_bits.specs.Askers.{Fed, Fed', Short}
-use Rattle.crossing_bits.specs.Streams.{Stream, left_of}
+use Rattle.crossing_bits.specs.Strings.{Stream, left_of}
 use Rattle.rv32im_machine.specs.declared.stepping.Stepped.{Stepped}
 use Rattle.rv32im_machine.specs.declared.stepping.Stepped.TheVariants.{Ran, Exited, Stopped}
 use Rattle.rv32im_machine.specs.State.{State}

@@ -1,7 +1,7 @@
 ghost use Rattle.std.specs.Prelude.{◌≡◌, IfOk, IsTrue, map, replicate};
 ghost use Rattle.cut_file.specs.Cuts.{are_points};
 ghost use Rattle.replay_machine.specs.Tables.{first_cursor};
-ghost use Rattle.replay_machine.specs.Private.Trims.{trimmed, without_last as front_of};
+ghost use Rattle.replay_machine.specs.Private.Copies.{trimmed, without_last as front_of};
 ghost use Rattle.replay_machine.specs.Visits.{SameAhead};
 
 use crate::cursors::Cursor;

@@ -16,7 +16,7 @@ pub struct Mark {
 
 impl fmt::Display for Mark {
     ghost use Rattle.std.specs.Prelude.{Some};
-    ghost use Rattle.replay_machine.specs.MarkTexts.{mark_text};
+    ghost use Rattle.replay_machine.specs.Marks.{mark_text};
 
     ghost output = { λ mark. Some (mark_text mark) };
 

@@ -1,7 +1,7 @@
 ghost use Rattle.std.specs.Prelude.{◌≡◌, ◌≢◌, [], length, IsTrue, Option as Maybe, None, List as Seq};
 ghost use Rattle.flow_base.specs.declared.points.Point.{Point as ThePoint};
 ghost use Rattle.crossing_bits.specs.Askers.{feed};
-ghost use Rattle.crossing_bits.specs.Streams.{left_of};
+ghost use Rattle.crossing_bits.specs.Strings.{left_of};
 ghost use Rattle.enclosure_regions.specs.declared.region_parts.Region.{Region as TheRegion};
 ghost use Rattle.replay_machine.specs.Runs.{Masks, replayed};
 ghost use Rattle.replay_machine.specs.Visits.{IsAhead};

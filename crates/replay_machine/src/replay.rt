@@ -3,7 +3,7 @@ ghost use Rattle.flow_base.specs.declared.points.Point.{Point as ThePoint};
 ghost use Rattle.elf32_loader.specs.Images.{image_picture};
 ghost use Rattle.cut_file.specs.Masks.{MaskAt};
 ghost use Rattle.crossing_bits.specs.Askers.{feed};
-ghost use Rattle.crossing_bits.specs.Streams.{left_of};
+ghost use Rattle.crossing_bits.specs.Strings.{left_of};
 ghost use Rattle.rv32im_machine.specs.declared.stepping.Stepped.TheVariants.{Ran};
 ghost use Rattle.rv32im_machine.specs.Start.{zeros};
 ghost use Rattle.replay_machine.specs.ReplayTurns.{replay_walk};

@@ -3,7 +3,7 @@ ghost use Rattle.flow_base.specs.declared.points.Point.{Point as ThePoint};
 ghost use Rattle.flow_base.specs.Words.{bit_count as count_of, patched};
 ghost use Rattle.flow_base.specs.Points.{is_slot, width_of};
 ghost use Rattle.crossing_bits.specs.Askers.{Asker, Asks};
-ghost use Rattle.crossing_bits.specs.Streams.{left_of};
+ghost use Rattle.crossing_bits.specs.Strings.{left_of};
 ghost use Rattle.rv32im_machine.specs.Playing.{Played};
 ghost use Rattle.replay_machine.specs.Runs.{ReplayPlace as ThePlace, Masks, mask_at};
 ghost use Rattle.replay_machine.specs.Visits.{IsAhead};
@@ -48,11 +48,11 @@ impl Replaying<'_> {
 impl Passer for Replaying<'_> {
     ghost use Rattle.std.specs.Prelude.{◌≡◌, ℕ, List, None};
     ghost use Rattle.flow_base.specs.declared.points.Point.{Point as ThePoint};
-    ghost use Rattle.crossing_bits.specs.Streams.{left_of};
+    ghost use Rattle.crossing_bits.specs.Strings.{left_of};
     ghost use Rattle.replay_machine.specs.Runs.{Masks, replayed};
     ghost use Rattle.replay_machine.specs.Visits.{IsAhead};
     ghost use Rattle.replay_machine.specs.Private.Sides.{Side, Replays, fed_of};
-    ghost use Rattle.replay_machine.specs.Private.Ends.{replays_Ended};
+    ghost use Rattle.replay_machine.specs.Private.Replaying.{replays_Ended};
 
     type Stop = ();
 

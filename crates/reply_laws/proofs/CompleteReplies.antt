@@ -20,16 +20,16 @@ use Rattle.command_tasks.specs.Tasks.{WriteProgram, ListProgram, VerifyCertifica
 use Rattle.command_tasks.specs.Tasks.{IsFormRefusal, IsTaskOf, wants_of}
 use Rattle.command_tasks.specs.Loading.{loaded_from}
 use Rattle.command_tasks.specs.Statuses.{status_number}
-use Rattle.task_answers.specs.Answers.{Answer}
+use Rattle.task_answers.specs.Replies.{Answer}
 use Rattle.task_answers.specs.Checks.{AnswersBy, judged_by, judgements_of, limits_of}
 use Rattle.task_answers.specs.Tellings.{AnswersTelling, IsCertificateText, IsCutOfRun, IsReport, Tells}
-use Rattle.task_answers.specs.TaskAnswers.{AnswersTask}
+use Rattle.task_answers.specs.AnsweredTasks.{AnswersTask}
 use Rattle.task_answers.specs.Texts.{accepted_count}
 use Rattle.task_answers.specs.Trials.{TellsTrial, run_of_number}
 use Rattle.commands.specs.Replies.{Replies, Reply}
 use Rattle.commands.proofs.Readings.{AnswersCommand, AnswersFiles, IsUsage, ReadsWords, reads_it, reads_words, status_of}
 use Rattle.commands.proofs.Readings.{words_reading}
-use Rattle.reply_laws.specs.ReplyLaws.{AreLoaded, Completes, CompletesBy, CompletesCheck, CompletesTelling}
+use Rattle.reply_laws.specs.Laws.{AreLoaded, Completes, CompletesBy, CompletesCheck, CompletesTelling}
 use Rattle.reply_laws.proofs.OneGuest.{RegionLaws}
 use Rattle.reply_laws.proofs.OneBound.{bound_completes}
 use Rattle.reply_laws.proofs.OneFinding.{taint_completes}

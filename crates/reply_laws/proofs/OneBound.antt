@@ -4,10 +4,10 @@ use Rattle.std.proofs.Common.{◌≡◌, ◌∙◌, ℕ, Ok, inl, inr, refl, sym
 use Rattle.every_secret.specs.Bounds.{Found, IsBounded, IsLeastPower, IsUnclear, TreeAnswer, summary_of}
 use Rattle.command_tasks.specs.declared.statuses.Status.TheVariants.{Done}
 use Rattle.command_tasks.specs.Tasks.{AllSecretsTask}
-use Rattle.task_answers.specs.AllSecrets.{AnswersAllSecrets, AnswersBound, AnswersTooMany, bound_of, bounded_text}
-use Rattle.task_answers.specs.Answers.{Answer}
+use Rattle.task_answers.specs.Bounding.{AnswersAllSecrets, AnswersBound, AnswersTooMany, bound_of, bounded_text}
+use Rattle.task_answers.specs.Replies.{Answer}
 use Rattle.commands.proofs.Readings.{status_of}
-use Rattle.reply_laws.specs.ReplyLaws.{CompletesBound, HasFewPaths}
+use Rattle.reply_laws.specs.Laws.{CompletesBound, HasFewPaths}
 
 one_power : (outputs a b : ℕ) → IsLeastPower outputs a → IsLeastPower outputs b → a ≡ b
 one_power outputs a b one other =

@@ -9,11 +9,11 @@ use Rattle.taint_check.specs.Tainted.{Finding, IsClean, IsUnclear}
 use Rattle.taint_check.proofs.OneVerdict.{one_verdict}
 use Rattle.command_tasks.specs.declared.statuses.Status.TheVariants.{Done, Rejected}
 use Rattle.command_tasks.specs.Statuses.{status_number}
-use Rattle.task_answers.specs.Answers.{Answer}
-use Rattle.task_answers.specs.Findings.{AnswersTaint, AreFindings, findings_reply}
+use Rattle.task_answers.specs.Replies.{Answer}
+use Rattle.task_answers.specs.Finding.{AnswersTaint, AreFindings, findings_reply}
 use Rattle.task_answers.specs.Texts.{clean_count}
 use Rattle.commands.proofs.Readings.{status_of}
-use Rattle.reply_laws.specs.ReplyLaws.{CompletesTaint, HasClean}
+use Rattle.reply_laws.specs.Laws.{CompletesTaint, HasClean}
 use Rattle.transfer_rules.specs.Tables.{IsDeciding}
 
 -- ---- findings are one

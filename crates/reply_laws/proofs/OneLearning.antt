@@ -8,10 +8,10 @@ use Rattle.region_learn.proofs.OneDeclaration.{learnt_is_one}
 use Rattle.command_tasks.specs.declared.refusals.Refusal.TheVariants.{Learn}
 use Rattle.command_tasks.specs.Guests.{Guest}
 use Rattle.command_tasks.specs.Tasks.{RunTask}
-use Rattle.task_answers.specs.Answers.{Answer, done_by}
-use Rattle.task_answers.specs.Declarations.{AnswersLearning, IsDeclaration, IsLearnRefusal, TellsRegions, learnt_run}
+use Rattle.task_answers.specs.Replies.{Answer, done_by}
+use Rattle.task_answers.specs.Learning.{AnswersLearning, IsDeclaration, IsLearnRefusal, TellsRegions, learnt_run}
 use Rattle.commands.proofs.Readings.{IsReading, reads_one, status_of}
-use Rattle.reply_laws.specs.ReplyLaws.{CompletesLearning}
+use Rattle.reply_laws.specs.Laws.{CompletesLearning}
 
 -- ---- faults
 

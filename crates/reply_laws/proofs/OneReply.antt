@@ -33,20 +33,20 @@ use Rattle.command_tasks.specs.Tasks.{AllSecretsTask, CheckTask, RunTask, Task, 
 use Rattle.command_tasks.specs.Tasks.{WriteProgram, ListProgram, VerifyCertificate, MigrateCut, TryNumber}
 use Rattle.command_tasks.specs.Tasks.{IsFormRefusal, IsTaskOf, wants_of}
 use Rattle.command_tasks.specs.Loading.{Loads, Want, loaded_from}
-use Rattle.task_answers.specs.Answers.{Answer, done_by}
+use Rattle.task_answers.specs.Replies.{Answer, done_by}
 use Rattle.task_answers.specs.Checks.{AnswersBy, judged_by, limits_of}
 use Rattle.task_answers.specs.Runs.{AnswersRun, IsMeasured, IsRunRefusal, start_of}
 use Rattle.task_answers.specs.CutTexts.{IsCutText}
 use Rattle.task_answers.specs.Tellings.{AnswersTelling, IsCertificateText, IsCutOfRun, IsReport, Tells as TellsOf}
 use Rattle.task_answers.specs.Tellings.{report_of}
-use Rattle.task_answers.specs.TaskAnswers.{AnswersTask}
+use Rattle.task_answers.specs.AnsweredTasks.{AnswersTask}
 use Rattle.task_answers.specs.Trials.{TellsTrial, crossing_count, guest_of_number, run_of_number, trial_line}
 use Rattle.task_answers.specs.Trials.{trial_turns}
-use Rattle.task_answers.specs.Verifications.{AnswersVerdict, IsExactVerdict, verdict_reply}
+use Rattle.task_answers.specs.Verdicts.{AnswersVerdict, IsExactVerdict, verdict_reply}
 use Rattle.commands.specs.Replies.{Replies, Reply, reply_of}
 use Rattle.commands.proofs.Readings.{AnswersCommand, AnswersFiles, AreOne, IsReading, IsUsage, ReadsWords, reads_one, reads_words}
 use Rattle.commands.proofs.Readings.{status_of, words_reading}
-use Rattle.reply_laws.specs.ReplyLaws.{AreLoaded, CompletesRun, CompletesVerdict, HasFewPaths, HaveFewPaths, IsNoGraph}
+use Rattle.reply_laws.specs.Laws.{AreLoaded, CompletesRun, CompletesVerdict, HasFewPaths, HaveFewPaths, IsNoGraph}
 use Rattle.reply_laws.proofs.CutTexts.{one_cut_text}
 use Rattle.reply_laws.proofs.DecidingTables.{Decides, DecidesBy, task_decides}
 use Rattle.reply_laws.proofs.OneBound.{bound_same}

@@ -7,11 +7,11 @@ use Rattle.many_runs.proofs.OneMany.{one_many, one_many_cause}
 use Rattle.command_tasks.specs.declared.refusals.Refusal.{Refusal}
 use Rattle.command_tasks.specs.declared.refusals.Refusal.TheVariants.{Runs as RunsRefused}
 use Rattle.command_tasks.specs.Tasks.{ManyRunsTask}
-use Rattle.task_answers.specs.Answers.{Answer, done_by}
+use Rattle.task_answers.specs.Replies.{Answer, done_by}
 use Rattle.task_answers.specs.CutTexts.{IsCutText}
-use Rattle.task_answers.specs.ManyRuns.{AnswersMany, AreMeasured, IsRunsRefusal, setup_in}
+use Rattle.task_answers.specs.Many.{AnswersMany, AreMeasured, IsRunsRefusal, setup_in}
 use Rattle.commands.proofs.Readings.{status_of}
-use Rattle.reply_laws.specs.ReplyLaws.{CompletesRuns}
+use Rattle.reply_laws.specs.Laws.{CompletesRuns}
 use Rattle.reply_laws.proofs.CutTexts.{one_cut_text}
 use Rattle.transfer_rules.specs.Tables.{IsDeciding}
 

@@ -1,1 +1,1 @@
-pub mod ReplyLaws
+pub mod Laws

@@ -1,6 +1,6 @@
 //! What holds of all replies.
 
-ghost use Rattle.reply_laws.specs.ReplyLaws.{OneReply, RepliesComplete};
+ghost use Rattle.reply_laws.specs.Laws.{OneReply, RepliesComplete};
 
 use enclosure_regions::region_files_are_one;
 

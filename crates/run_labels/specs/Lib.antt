@@ -6,4 +6,4 @@ pub mod Answers
 pub mod Traces
 pub mod Runs
 pub mod Laws
-pub mod FaultTexts
+pub mod Faults

@@ -29,7 +29,7 @@ pub enum MeasureFault {
 
 impl fmt::Display for MeasureFault {
     ghost use Rattle.std.specs.Prelude.{Some};
-    ghost use Rattle.run_labels.specs.FaultTexts.{run_fault_text};
+    ghost use Rattle.run_labels.specs.Faults.{run_fault_text};
 
     ghost output = { λ fault. Some (run_fault_text fault) };
 

@@ -9,6 +9,6 @@ pub mod Encodings
 pub mod Assembling
 pub mod Answers
 pub mod Mnemonics
-pub mod InstructionTexts
+pub mod Texts
 pub mod Listing
 pub mod Private

@@ -4,7 +4,7 @@ use Rattle.std.specs.Option.{option_map_or}
 use Rattle.flow_base.specs.HexWords.{hex_digits, hex_word}
 use Rattle.rv32im_decode.specs.Decoding.{decoded}
 use Rattle.elf32_loader.specs.declared.segments.Segment.{Segment}
-use Rattle.rv32im_asm.specs.InstructionTexts.{instruction_text}
+use Rattle.rv32im_asm.specs.Texts.{instruction_text}
 
 -- the instruction of a word, or a dash where there is none
 abbrev pub word_text : ℕ → List ℕ

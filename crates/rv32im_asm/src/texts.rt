@@ -1,8 +1,8 @@
 ghost use Rattle.std.specs.Prelude.{◌≡◌, IfOk};
 ghost use Rattle.rv32im_decode.specs.declared.instructions.Instr.TheVariants.{Fence, Jal};
-ghost use Rattle.rv32im_asm.specs.InstructionTexts.{instruction_text, registers_text as registers_text_of};
-ghost use Rattle.rv32im_asm.specs.InstructionTexts.{immediate_text as immediate_text_of, memory_text as memory_text_of};
-ghost use Rattle.rv32im_asm.specs.InstructionTexts.{upper_text as upper_text_of};
+ghost use Rattle.rv32im_asm.specs.Texts.{instruction_text, registers_text as registers_text_of};
+ghost use Rattle.rv32im_asm.specs.Texts.{immediate_text as immediate_text_of, memory_text as memory_text_of};
+ghost use Rattle.rv32im_asm.specs.Texts.{upper_text as upper_text_of};
 
 use crate::mnemonics::{branch_name, immediate_name, load_name, operation_name, store_name};
 use flow_base::{Bytes, NoMemory};

@@ -3,7 +3,7 @@ use Rattle.std.proofs.Common.{◌≡◌, ◌⊎◌, inl, inr, ℕ, ◌+◌, ◌-
 use Rattle.std.proofs.lemmas.Bool.{cases_eq, cases_lt, true≢false}
 use Rattle.std.proofs.lemmas.List.{ext_get_or, get_or-replicate, get_or-set_same, get_or-set_other, length-replicate}
 use Rattle.flow_base.specs.Guests.{memory_size}
-use Rattle.rv32im_machine.specs.Pages.{AreZeroBelow, AreZeroUntouched}
+use Rattle.rv32im_machine.specs.GuestMemory.{AreZeroBelow, AreZeroUntouched}
 use Rattle.rv32im_machine.specs.Start.{laid_at, zeros}
 use Rattle.rv32im_machine.proofs.Laying.{laid_at_above, laid_at_below, laid_at_within, zeros_byte, zeros_length}
 

@@ -3,7 +3,7 @@ use Rattle.std.proofs.Common.{◌≡◌, ℕ, ◌+◌, ◌-◌, ◌*◌, ◌%◌
 use Rattle.std.proofs.lemmas.List.{append_assoc, get_or_append_left, get_or-append_right, get_or-replicate, length-set, length-replicate, replicate-append-replicate, set-append_left, set-append_right, take_all, take-append-le, take-append-drop, take-take, take_at, drop_at, drop-take, drop-append-le, drop-drop, length-take-le}
 use Rattle.flow_base.specs.Guests.{memory_size}
 use Rattle.rv32im_machine.specs.Start.{laid_at, zeros}
-use Rattle.rv32im_machine.specs.Private.Spread.{high_size, low_room, spread}
+use Rattle.rv32im_machine.specs.Private.SparseBytes.{high_size, low_room, spread}
 use Rattle.rv32im_machine.proofs.Laying.{laid_at_length, zeros_byte, zeros_length}
 use Rattle.rv32im_machine.proofs.Standings.{piece_byte}
 

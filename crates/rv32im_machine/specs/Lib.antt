@@ -6,8 +6,8 @@ pub mod Folds
 pub mod Parts
 pub mod Playing
 pub mod Start
-pub mod Pages
+pub mod GuestMemory
 pub mod Standing
 pub mod Laws
-pub mod FaultTexts
+pub mod Stepping
 pub mod Private

@@ -1,4 +1,4 @@
 -- Definitions that only functions of this crate have in their contracts; no public contract stands on them.
 pub mod Passings
-pub mod Stores
-pub mod Spread
+pub mod LoadsStores
+pub mod SparseBytes

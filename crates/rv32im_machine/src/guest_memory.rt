@@ -1,6 +1,6 @@
 ghost use Rattle.std.specs.Prelude.{◌≡◌, ℕ, ◌+◌, ◌-◌, ◌*◌, ◌/◌, ◌%◌, ◌<◌, ◌≤◌, ◌==◌, IfOk, [], ◌∷◌, false, if◌then◌else◌, length, replicate, slice_index, slice_set, true, vec_len};
 ghost use Rattle.flow_base.specs.Guests.{memory_size};
-ghost use Rattle.rv32im_machine.specs.Pages.{AreZeroBelow, AreZeroUntouched};
+ghost use Rattle.rv32im_machine.specs.GuestMemory.{AreZeroBelow, AreZeroUntouched};
 ghost use Rattle.rv32im_machine.specs.Standing.{piece_size};
 ghost use Rattle.rv32im_machine.specs.Start.{zeros, laid_at};
 
@@ -26,7 +26,7 @@ pub struct GuestMemory {
 impl Model for GuestMemory {
     ghost use Rattle.std.specs.Prelude.{◌≡◌, ℕ, List, length, vec_len};
     ghost use Rattle.flow_base.specs.Guests.{memory_size};
-    ghost use Rattle.rv32im_machine.specs.Pages.{AreZeroUntouched};
+    ghost use Rattle.rv32im_machine.specs.GuestMemory.{AreZeroUntouched};
 
     ghost Value = { List ℕ };
 

@@ -6,7 +6,7 @@ ghost use Rattle.rv32im_decode.specs.Encoding.{InRange};
 ghost use Rattle.flow_base.specs.Guests.{is_inside};
 ghost use Rattle.rv32im_machine.specs.State.{joined, with_byte};
 ghost use Rattle.rv32im_machine.specs.Language.{shaped, part_of, turn_walk, walk, with_store, Held, Moved, Walk, bytes_at};
-ghost use Rattle.rv32im_machine.specs.Private.Stores.{high_half_at};
+ghost use Rattle.rv32im_machine.specs.Private.LoadsStores.{high_half_at};
 ghost use Rattle.rv32im_machine.specs.Rows.{row_walk, load_checked, store_checked, stores, store_at, loaded_from};
 ghost use Rattle.rv32im_machine.specs.Playing.{Goes, Knows, are_bytes, outcome};
 

@@ -2,7 +2,7 @@
 
 ghost use Rattle.std.specs.Prelude.{◌≡◌, ◌+◌, ◌-◌, ◌*◌, ◌/◌, ◌%◌, ◌<◌, ◌≤◌, ℕ, [], ◌∷◌, IfOk, length, slice_index, slice_set, vec_len, vec_capacity, List};
 ghost use Rattle.flow_base.specs.Guests.{memory_size};
-ghost use Rattle.rv32im_machine.specs.Private.Spread.{low_room, high_size, spread};
+ghost use Rattle.rv32im_machine.specs.Private.SparseBytes.{low_room, high_size, spread};
 ghost use Rattle.rv32im_machine.specs.Standing.{piece_size};
 ghost use Rattle.rv32im_machine.specs.Start.{zeros, laid_at};
 
@@ -35,7 +35,7 @@ pub(crate) struct SparseBytes {
 
 impl Model for SparseBytes {
     ghost use Rattle.std.specs.Prelude.{◌≡◌, ◌≤◌, ◌%◌, ℕ, List, vec_len, vec_capacity};
-    ghost use Rattle.rv32im_machine.specs.Private.Spread.{low_room, high_size, spread};
+    ghost use Rattle.rv32im_machine.specs.Private.SparseBytes.{low_room, high_size, spread};
 
     ghost Value = { List ℕ };
 

@@ -62,7 +62,7 @@ pub enum CallPlan {
 
 impl fmt::Display for Fault {
     ghost use Rattle.std.specs.Prelude.{Some};
-    ghost use Rattle.rv32im_machine.specs.FaultTexts.{stop_text};
+    ghost use Rattle.rv32im_machine.specs.Stepping.{stop_text};
 
     ghost output = { λ fault. Some (stop_text fault) };
 

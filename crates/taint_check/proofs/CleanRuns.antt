@@ -22,7 +22,7 @@ use Rattle.lockstep_replay.specs.Crossing.{cross_after}
 use Rattle.lockstep_replay.specs.Tasks.{Task, Limits, Cross, enclosed_of, real_of, real_start, replay_start}
 use Rattle.run_labels.specs.Runs.{entered_number, stopped_fault}
 use Rattle.run_labels.specs.TurnLabels.{at_start}
-use Rattle.acceptance_law.specs.Proper.{AreBytes, IsProperGuest}
+use Rattle.acceptance_law.specs.Inputs.{AreBytes, IsProperGuest}
 use Rattle.acceptance_law.specs.ProperLaws.{ProperTurnsLaw}
 use Rattle.acceptance_law.proofs.CoveredRunAccepted.{end_alike, same_fed}
 use Rattle.acceptance_law.proofs.RunFacts.{SameSetting, kind_setting}

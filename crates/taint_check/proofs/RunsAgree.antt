@@ -25,7 +25,7 @@ use Rattle.lockstep_replay.proofs.RunsGrow.{IsAt, fed_next, at_enclosed}
 use Rattle.shadow_masks.specs.Writes.{LabelMap}
 use Rattle.run_labels.specs.Runs.{entered_number, stopped_fault}
 use Rattle.run_labels.specs.TurnLabels.{at_start}
-use Rattle.acceptance_law.specs.Proper.{AreBytes}
+use Rattle.acceptance_law.specs.Inputs.{AreBytes}
 use Rattle.acceptance_law.specs.ProperLaws.{ProperTurnsLaw}
 use Rattle.acceptance_law.proofs.ModeSteps.{ran_of}
 use Rattle.acceptance_law.proofs.RunFacts.{SameSetting, state_parts}

@@ -23,7 +23,7 @@ use Rattle.replay_machine.specs.Runs.{Masks, replayed, replay_inside}
 use Rattle.lockstep_replay.specs.Crossing.{crossing}
 use Rattle.shadow_masks.specs.Writes.{LabelMap, after, Save}
 use Rattle.run_labels.specs.TurnLabels.{at_start}
-use Rattle.acceptance_law.specs.Proper.{AreBytes, IsProperGuest}
+use Rattle.acceptance_law.specs.Inputs.{AreBytes, IsProperGuest}
 use Rattle.acceptance_law.specs.ProperLaws.{ProperTurnsLaw}
 use Rattle.acceptance_law.proofs.Entering.{SameStarts, outside_same, entry_end}
 use Rattle.acceptance_law.proofs.QuietInsideRegions.{step_quiet}

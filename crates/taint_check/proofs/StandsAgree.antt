@@ -22,7 +22,7 @@ use Rattle.replay_machine.specs.Runs.{Masks, replayed, replay_turn, replay_insid
 use Rattle.lockstep_replay.specs.Crossing.{crossing}
 use Rattle.shadow_masks.specs.Writes.{LabelMap, after, Save}
 use Rattle.run_labels.specs.TurnLabels.{TurnLabels, at_start}
-use Rattle.acceptance_law.specs.Proper.{AreBytes, IsProperGuest, IsProper}
+use Rattle.acceptance_law.specs.Inputs.{AreBytes, IsProperGuest, IsProper}
 use Rattle.acceptance_law.specs.ProperLaws.{ProperTurnsLaw}
 use Rattle.acceptance_law.specs.Sides.{NamedSide}
 use Rattle.acceptance_law.proofs.Entering.{SameStarts, outside_same, entry_end, entry_passed, entry_crossing, entry_replayed}

@@ -23,7 +23,7 @@ use Rattle.run_labels.specs.Masks.{masks_of, work_mask}
 use Rattle.run_labels.specs.TurnLabels.{TurnLabels, at_start, put_label}
 use Rattle.shadow_masks.specs.Pages.{label_of}
 use Rattle.transfer_rules.specs.Table1.{flipped}
-use Rattle.acceptance_law.specs.Proper.{AreBytes, IsPassing, FitsPlace, IsProper}
+use Rattle.acceptance_law.specs.Inputs.{AreBytes, IsPassing, FitsPlace, IsProper}
 use Rattle.acceptance_law.proofs.AgreeOutsideMask.{patched_uncrossed}
 use Rattle.acceptance_law.proofs.Passings.{made_agrees, made_fits, mask_fits, patched_slot, slot_word}
 use Rattle.acceptance_law.proofs.Turns.{feed_bits, seen_word}

@@ -1,6 +1,6 @@
 pub mod Cleared
 pub mod Reasons
 pub mod Tainted
-pub mod TaintTexts
+pub mod Whys
 pub mod Laws
 pub mod Private

@@ -31,7 +31,7 @@ pub enum TaintWhy {
 
 impl fmt::Display for TaintWhy {
     ghost use Rattle.std.specs.Prelude.{Some};
-    ghost use Rattle.taint_check.specs.TaintTexts.{taint_text};
+    ghost use Rattle.taint_check.specs.Whys.{taint_text};
 
     ghost output = { λ why. Some (taint_text why) };
 

@@ -5,8 +5,8 @@ use Rattle.every_secret.specs.declared.verdicts.BoundVerdict.TheVariants as verd
 use Rattle.every_secret.specs.AnyPublic.{TellsOf}
 use Rattle.every_secret.specs.Bounds.{Found, IsBounded, IsUnclear, Shows, TreeAnswer, summary_in, summary_of}
 use Rattle.command_tasks.specs.Tasks.{AllSecretsTask}
-use Rattle.task_answers.specs.AllSecrets.{AnswersBound, bound_limits, public_of}
-use Rattle.task_answers.specs.Answers.{Answer}
+use Rattle.task_answers.specs.Bounding.{AnswersBound, bound_limits, public_of}
+use Rattle.task_answers.specs.Replies.{Answer}
 use Rattle.task_answers.specs.Checks.{judged_by}
 
 pub bounded_answers : (all : AllSecretsTask) (bounded : Bounded) (known : TreeAnswer) (answer : Answer) →

@@ -8,7 +8,7 @@ use Rattle.flow_certificate.specs.Pictures.{have_counts, have_names}
 use Rattle.flow_graph.specs.declared.nodes.Node.{Node}
 use Rattle.max_flow.specs.Flows.{AreAtMost, is_small}
 use Rattle.measuring.specs.declared.measured.Measured.{Measured}
-use Rattle.measuring.specs.Limits.{has_slot}
+use Rattle.measuring.specs.Measured.{has_slot}
 use Rattle.command_tasks.specs.Tasks.{RunTask}
 use Rattle.task_answers.specs.Runs.{IsMeasured}
 use Rattle.task_answers.specs.Tellings.{solved_of}

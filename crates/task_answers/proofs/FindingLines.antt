@@ -6,7 +6,7 @@ use Rattle.taint_check.specs.Tainted.{Finding, IsClean, IsUnclear}
 use Rattle.command_tasks.specs.declared.statuses.Status.{Status}
 use Rattle.command_tasks.specs.declared.statuses.Status.TheVariants.{Done, Rejected}
 use Rattle.task_answers.specs.declared.replies.Reply.{Reply}
-use Rattle.task_answers.specs.Findings.{AreFindings, findings_reply}
+use Rattle.task_answers.specs.Finding.{AreFindings, findings_reply}
 use Rattle.task_answers.specs.Texts.{clean_count, counts_line, finding_line, finding_lines}
 
 pub length_findings : (table : ℕ) (task : JudgedTask) (limits : Limits) (secrets : List (List ℕ))

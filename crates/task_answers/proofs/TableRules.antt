@@ -2,7 +2,7 @@
 use Rattle.std.proofs.Common.{◌≡◌, ◌≤◌, ℕ, zero, suc, refl, arith}
 use Rattle.every_secret.specs.declared.public_inputs.PublicInput.{PublicInput}
 use Rattle.every_secret.specs.Rules.{AnswerAs, AreSoundRules, TablesAreSound, TablesHaveRules}
-use Rattle.task_answers.specs.AllSecrets.{rules_by}
+use Rattle.task_answers.specs.Bounding.{rules_by}
 
 pub record AreRules (table : ℕ) (public : PublicInput) : Type 0 where
   pub answers : AnswerAs table (rules_by table public)

@@ -9,8 +9,8 @@ use Rattle.command_tasks.specs.declared.statuses.Status.TheVariants.{Done, Rejec
 use Rattle.command_tasks.specs.Guests.{Guest}
 use Rattle.command_tasks.specs.Tasks.{CheckTask}
 use Rattle.task_answers.specs.declared.replies.Reply.{Reply}
-use Rattle.task_answers.specs.Answers.{Answer}
-use Rattle.task_answers.specs.Findings.{AnswersTaint}
+use Rattle.task_answers.specs.Replies.{Answer}
+use Rattle.task_answers.specs.Finding.{AnswersTaint}
 use Rattle.task_answers.specs.Texts.{check_text, accepted_count}
 
 -- the limits of bits and of turns

@@ -11,7 +11,7 @@ use Rattle.command_tasks.specs.declared.refusals.Refusal.{Refusal}
 use Rattle.command_tasks.specs.declared.refusals.Refusal.TheVariants.{Run as RunRefused}
 use Rattle.command_tasks.specs.Refusals.{IsRefusedBy}
 use Rattle.command_tasks.specs.Tasks.{RunTask}
-use Rattle.task_answers.specs.Answers.{Answer, Reads}
+use Rattle.task_answers.specs.Replies.{Answer, Reads}
 
 -- the start of the run, where nothing depends on the secret
 abbrev pub start_of : RunTask → LabelledRun

@@ -10,9 +10,9 @@ use Rattle.measuring.specs.declared.measured.Measured.{Measured}
 use Rattle.command_line.specs.declared.tellings.Telling.{Telling}
 use Rattle.command_line.specs.declared.tellings.Telling.TheVariants.{CutText, Certificate, Report, Declaration}
 use Rattle.command_tasks.specs.Tasks.{RunTask}
-use Rattle.task_answers.specs.Answers.{Answer, done_by}
+use Rattle.task_answers.specs.Replies.{Answer, done_by}
 use Rattle.task_answers.specs.CutTexts.{IsCutText}
-use Rattle.task_answers.specs.Declarations.{AnswersLearning}
+use Rattle.task_answers.specs.Learning.{AnswersLearning}
 use Rattle.task_answers.specs.Runs.{AnswersRun}
 
 -- the text of the cut of a measured run in a version

@@ -3,7 +3,7 @@ use Rattle.std.specs.Prelude.{ℕ, ◌+◌, List, [], ◌∷◌, ◌++◌, lengt
 use Rattle.std.specs.Fmt.{decimal}
 use Rattle.leak_report.specs.VerdictLines.{taken_line, verdict_line}
 use Rattle.lockstep_replay.specs.Verdicts.{Judgement, Accepts, Rejects}
-use Rattle.taint_check.specs.TaintTexts.{taint_text}
+use Rattle.taint_check.specs.Whys.{taint_text}
 use Rattle.taint_check.specs.Tainted.{Finding, IsClean, IsUnclear}
 
 abbrev pub verdict_lines : ℕ → List Judgement → List ℕ

@@ -8,7 +8,7 @@ use Rattle.trial_guests.specs.Programs.{picture_of_number}
 use Rattle.trial_guests.specs.Secrets.{secret_of}
 use Rattle.command_tasks.specs.Guests.{Guest}
 use Rattle.command_tasks.specs.Tasks.{RunTask}
-use Rattle.task_answers.specs.Answers.{Answer, done_by}
+use Rattle.task_answers.specs.Replies.{Answer, done_by}
 use Rattle.task_answers.specs.Checks.{judged_by}
 
 -- the number of turns within which the guest exits

@@ -3,7 +3,7 @@
 ghost use Rattle.std.specs.Prelude.{◌≡◌, ◌≢◌, ◌∷◌, [], Err, map};
 ghost use Rattle.command_tasks.specs.ReadTasks.{IsLimitedTask, task_in};
 ghost use Rattle.command_tasks.specs.declared.refusals.Refusal.TheVariants.{Memory};
-ghost use Rattle.task_answers.specs.TaskAnswers.{AnswersTask};
+ghost use Rattle.task_answers.specs.AnsweredTasks.{AnswersTask};
 
 use crate::bounding::bound_all;
 use crate::judging::judge_secrets;

@@ -3,14 +3,14 @@
 ghost use Rattle.std.specs.Prelude.{◌≡◌, ◌++◌, ◌∷◌, ℕ, [], codes, option_map, IfOk};
 ghost use Rattle.hex.specs.Hex.{encode_lower};
 ghost use Rattle.every_secret.specs.Bounds.{IsLeastPower, counted, halt_of, output_count as output_count_of, summary_in};
-ghost use Rattle.task_answers.specs.BoundTexts.{bounded_line as bounded_line_of, count_text as count_text_of};
-ghost use Rattle.task_answers.specs.BoundTexts.{hex_bytes as hex_bytes_of, listing as listing_of};
-ghost use Rattle.task_answers.specs.BoundTexts.{mask_text as mask_text_of, path_text as path_text_of};
-ghost use Rattle.task_answers.specs.BoundTexts.{paths_text as paths_text_of, status_text as status_text_of};
-ghost use Rattle.task_answers.specs.BoundTexts.{public_text as public_text_of};
-ghost use Rattle.task_answers.specs.BoundTexts.{pattern_line as pattern_line_of, pattern_lines as pattern_lines_of};
-ghost use Rattle.task_answers.specs.BoundTexts.{stop_line as stop_line_of, too_many_line as too_many_line_of};
-ghost use Rattle.task_answers.specs.BoundTexts.{unclear_line as unclear_line_of};
+ghost use Rattle.task_answers.specs.BoundLines.{bounded_line as bounded_line_of, count_text as count_text_of};
+ghost use Rattle.task_answers.specs.BoundLines.{hex_bytes as hex_bytes_of, listing as listing_of};
+ghost use Rattle.task_answers.specs.BoundLines.{mask_text as mask_text_of, path_text as path_text_of};
+ghost use Rattle.task_answers.specs.BoundLines.{paths_text as paths_text_of, status_text as status_text_of};
+ghost use Rattle.task_answers.specs.BoundLines.{public_text as public_text_of};
+ghost use Rattle.task_answers.specs.BoundLines.{pattern_line as pattern_line_of, pattern_lines as pattern_lines_of};
+ghost use Rattle.task_answers.specs.BoundLines.{stop_line as stop_line_of, too_many_line as too_many_line_of};
+ghost use Rattle.task_answers.specs.BoundLines.{unclear_line as unclear_line_of};
 
 use crate::texts::joined;
 use crossing_bits::Bits;

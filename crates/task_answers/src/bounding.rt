@@ -4,8 +4,8 @@ ghost use Rattle.std.specs.Prelude.{◌≡◌, ◌∷◌, ◌<◌, [], Ok as Fin
 ghost use Rattle.every_secret.specs.AnyPublic.{TellsOf, seen_task};
 ghost use Rattle.every_secret.specs.Bounds.{Found, HasMorePaths, IsBounded, IsUnclear, IsVerdict, summary_in, summary_of};
 ghost use Rattle.command_tasks.specs.ReadTasks.{IsBoundedAll, all_secrets_in};
-ghost use Rattle.task_answers.specs.AllSecrets.{AnswersAllSecrets, AnswersBound, AnswersTooMany, bound_limits, bound_of, rules_by};
-ghost use Rattle.task_answers.specs.AllSecrets.{public_of, tree_in};
+ghost use Rattle.task_answers.specs.Bounding.{AnswersAllSecrets, AnswersBound, AnswersTooMany, bound_limits, bound_of, rules_by};
+ghost use Rattle.task_answers.specs.Bounding.{public_of, tree_in};
 ghost use Rattle.task_answers.specs.Checks.{judged_by};
 
 use crate::books::book_of;

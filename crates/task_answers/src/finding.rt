@@ -7,7 +7,7 @@ ghost use Rattle.taint_check.specs.Tainted.{Finding, IsUnclear, finding_of};
 ghost use Rattle.command_tasks.specs.ReadTasks.{AreShort, guest_in};
 ghost use Rattle.task_answers.specs.Private.JudgedLimits.{limits_in};
 ghost use Rattle.task_answers.specs.Checks.{judged_by};
-ghost use Rattle.task_answers.specs.Findings.{AnswersTaint, AreFindings, IsFinding};
+ghost use Rattle.task_answers.specs.Finding.{AnswersTaint, AreFindings, IsFinding};
 ghost use Rattle.task_answers.specs.Texts.{clean_count, finding_line as finding_line_of, finding_lines};
 
 use crate::lent_tasks::lent_task;

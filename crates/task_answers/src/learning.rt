@@ -3,7 +3,7 @@
 ghost use Rattle.std.specs.Prelude.{◌≢◌, ◌≤◌, Err, IfErr, IfOk, length};
 ghost use Rattle.command_tasks.specs.ReadTasks.{IsBoundedRun, guest_in};
 ghost use Rattle.command_tasks.specs.declared.refusals.Refusal.TheVariants.{Memory};
-ghost use Rattle.task_answers.specs.Declarations.{AnswersLearning, IsDeclaration, IsLearnRefusal};
+ghost use Rattle.task_answers.specs.Learning.{AnswersLearning, IsDeclaration, IsLearnRefusal};
 
 use crate::replies::Reply;
 use command_tasks::{Guest, Refusal, RunTask};

@@ -3,7 +3,7 @@
 ghost use Rattle.std.specs.Prelude.{◌≡◌, ◌≢◌, ◌∷◌, [], Err, map, IfErr, IfOk};
 ghost use Rattle.command_tasks.specs.ReadTasks.{AreBoundedRuns, many_runs_in};
 ghost use Rattle.command_tasks.specs.declared.refusals.Refusal.TheVariants.{Memory};
-ghost use Rattle.task_answers.specs.ManyRuns.{AnswersMany, AreMeasured, IsRunsRefusal};
+ghost use Rattle.task_answers.specs.Many.{AnswersMany, AreMeasured, IsRunsRefusal};
 
 use crate::books::book_of;
 use crate::replies::Reply;

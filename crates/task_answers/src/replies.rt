@@ -1,7 +1,7 @@
 ghost use Rattle.std.specs.Prelude.{◌≡◌, ◌≢◌, IfOk, IsErr, OnErr, Err};
 ghost use Rattle.command_tasks.specs.declared.statuses.Status.TheVariants.{Done};
 ghost use Rattle.command_tasks.specs.declared.refusals.Refusal.TheVariants.{Memory};
-ghost use Rattle.task_answers.specs.Answers.{told};
+ghost use Rattle.task_answers.specs.Replies.{told};
 
 use command_tasks::{Refusal, Status};
 use flow_base::{Bytes, NoMemory};

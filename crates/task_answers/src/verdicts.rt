@@ -1,5 +1,5 @@
 ghost use Rattle.std.specs.Prelude.{◌≡◌, IfOk};
-ghost use Rattle.task_answers.specs.Verifications.{verdict_reply, verdict_status};
+ghost use Rattle.task_answers.specs.Verdicts.{verdict_reply, verdict_status};
 
 use crate::replies::Reply;
 use command_tasks::Status;

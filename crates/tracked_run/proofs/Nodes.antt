@@ -26,7 +26,7 @@ use Rattle.run_labels.specs.TurnLabels.{TurnLabels, put_label, save_labels, rest
 use Rattle.tracked_run.specs.Linking.{Appends}
 use Rattle.tracked_run.specs.Labels.{is_byte}
 use Rattle.tracked_run.specs.Runs.{wants_memory}
-use Rattle.tracked_run.specs.Private.Tracks.{Left, Tracks}
+use Rattle.tracked_run.specs.Private.Tracking.{Left, Tracks}
 use Rattle.tracked_run.proofs.Appending.{appends_more}
 use Rattle.std.specs.Option.{option_or}
 

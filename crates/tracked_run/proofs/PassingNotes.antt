@@ -5,7 +5,7 @@ use Rattle.rv32im_machine.specs.declared.language.Passing.{Passing}
 use Rattle.run_labels.specs.Masks.{labels_after, mask_of}
 use Rattle.run_labels.specs.TurnLabels.{TurnLabels}
 use Rattle.tracked_run.specs.Linking.{Appends, masked_events}
-use Rattle.tracked_run.specs.Private.Notes.{IsMask, Notes}
+use Rattle.tracked_run.specs.Private.Noting.{IsMask, Notes}
 
 pub notes_of : {X : Type 0} (table : ℕ) (before : TurnLabels) (stood stands : List Event → Type 0) (passing : Passing)
     (after : TurnLabels) (mask : ℕ) (r : Result (Unit {0}) X) → IsMask table before passing mask →

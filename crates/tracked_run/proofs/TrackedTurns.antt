@@ -24,7 +24,7 @@ use Rattle.run_labels.specs.Runs.{LabelledRun, enclosing, entered_number, broken
 use Rattle.tracked_run.specs.Labels.{map_of, labels_of, clean_held}
 use Rattle.tracked_run.specs.Outcomes.{fault_of, spent_by, turn_answer}
 use Rattle.tracked_run.specs.Runs.{Stands, MakesTurn, Turns}
-use Rattle.tracked_run.specs.Private.Tracks.{Left, EndsTracked}
+use Rattle.tracked_run.specs.Private.Tracking.{Left, EndsTracked}
 use Rattle.tracked_run.proofs.Settings.{same_setting}
 use Rattle.std.specs.Option.{option_or}
 

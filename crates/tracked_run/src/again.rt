@@ -1,7 +1,7 @@
 ghost use Rattle.std.specs.Prelude.{◌≡◌, Some, IfSome, OnOk};
 ghost use Rattle.std.specs.Bool.{OnTrue};
 ghost use Rattle.rv32im_machine.specs.Playing.{AreSources};
-ghost use Rattle.flow_graph.specs.Again.{again_events};
+ghost use Rattle.flow_graph.specs.Events.{again_events};
 ghost use Rattle.tracked_run.specs.Private.Again.{GivesAgain};
 ghost use Rattle.tracked_run.specs.Labels.{labels_of};
 ghost use Rattle.tracked_run.specs.Linking.{Appends};

@@ -4,7 +4,7 @@ ghost use Rattle.rv32im_machine.specs.Playing.{IsAim, AreSources, FitsAim, FitsS
 ghost use Rattle.run_labels.specs.Masks.{labels_after, mask_of};
 ghost use Rattle.tracked_run.specs.Labels.{IsMaskFor, labels_of};
 ghost use Rattle.tracked_run.specs.Linking.{Appends, masked_events};
-ghost use Rattle.tracked_run.specs.Private.Notes.{IsMask, Notes};
+ghost use Rattle.tracked_run.specs.Private.Noting.{IsMask, Notes};
 
 use crate::again::{gives_again, note_again};
 use crate::held::Held;

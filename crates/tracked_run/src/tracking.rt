@@ -29,7 +29,7 @@ impl<E: Events> Passer for Tracking<'_, E> {
     ghost use Rattle.std.specs.Prelude.{Some};
     ghost use Rattle.std.proofs.Common.{refl};
     ghost use Rattle.tracked_run.specs.Labels.{labels_of};
-    ghost use Rattle.tracked_run.specs.Private.Tracks.{Left, Tracks, tracks_Ended};
+    ghost use Rattle.tracked_run.specs.Private.Tracking.{Left, Tracks, tracks_Ended};
 
     type Stop = NoMemory;
 
@@ -102,7 +102,7 @@ impl<E: Events> Passer for Tracking<'_, E> {
 
 impl<E: Events> Observer for Tracking<'_, E> {
     ghost use Rattle.tracked_run.specs.Labels.{labels_of};
-    ghost use Rattle.tracked_run.specs.Private.Tracks.{tracks_real};
+    ghost use Rattle.tracked_run.specs.Private.Tracking.{tracks_real};
 
     ghost real = { λ side walk state after told.
         tracks_real E.stands_for side.book.now.table side.region (labels_of side.shadow.now side.held)

@@ -12,7 +12,7 @@ use Rattle.transfer_rules.specs.declared.classes.Class.{Class}
 use Rattle.transfer_rules.specs.declared.classes.Class.TheVariants.{Add}
 use Rattle.transfer_rules.specs.declared.operands.Operands.{Operands}
 use Rattle.transfer_rules.specs.Classes.{instruction_class}
-use Rattle.transfer_rules.specs.Operations.{OfWords, OfBranch, OfAddress, computed}
+use Rattle.transfer_rules.specs.Rules.{OfWords, OfBranch, OfAddress, computed}
 use Rattle.transfer_rules.specs.Soundness.{IsSound, IsSoundSum, IsSoundTarget, KeepsMask}
 use Rattle.transfer_rules.specs.Tables.{sum_operands}
 

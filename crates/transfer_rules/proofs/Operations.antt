@@ -11,7 +11,7 @@ use Rattle.transfer_rules.specs.declared.classes.Class.TheVariants.{Add, Sub, An
 use Rattle.transfer_rules.specs.declared.classes.Class.TheVariants.{Equal, Mul, Mulh, Mulhsu, Mulhu, Div, Divu, Rem, Remu}
 use Rattle.transfer_rules.specs.declared.operands.Operands.{Operands}
 use Rattle.transfer_rules.specs.Classes.{branch_class, operation_class}
-use Rattle.transfer_rules.specs.Operations.{Operation, OfWords, OfBranch, OfAddress, class_of, result_of}
+use Rattle.transfer_rules.specs.Rules.{Operation, OfWords, OfBranch, OfAddress, class_of, result_of}
 use Rattle.transfer_rules.specs.Soundness.{IsSound, KeepsMask}
 
 abbrev pub operations : Class → List (ℕ → ℕ → ℕ)

@@ -14,7 +14,7 @@ use Rattle.rv32im_decode.specs.declared.instructions.OpKind.{OpKind}
 use Rattle.rv32im_decode.specs.declared.instructions.OpKind.TheVariants as op
 use Rattle.rv32im_decode.specs.Operations.{op_result, shifted_with_sign}
 use Rattle.transfer_rules.specs.declared.operands.Operands.{Operands}
-use Rattle.transfer_rules.specs.ShiftRanges.{in_some, is_shift, may_shift_by, shift_range}
+use Rattle.transfer_rules.specs.Shifts3.{in_some, is_shift, may_shift_by, shift_range}
 use Rattle.transfer_rules.specs.Soundness.{AreWords, KeepsMask}
 use Rattle.transfer_rules.specs.Table1.{flipped, shift_mask}
 use Rattle.transfer_rules.specs.Table2.{least, greatest}

@@ -1,6 +1,6 @@
 pub mod Classes
-pub mod Operations
-pub mod ShiftRanges
+pub mod Rules
+pub mod Shifts3
 pub mod Soundness
 pub mod Table1
 pub mod Table2

@@ -6,7 +6,7 @@ use Rattle.rv32im_decode.specs.declared.instructions.Instr.TheVariants.{Jalr, Lo
 use Rattle.rv32im_decode.specs.Operations.{address_of, target_of, word_of}
 use Rattle.transfer_rules.specs.declared.classes.Class.{Class}
 use Rattle.transfer_rules.specs.declared.operands.Operands.{Operands}
-use Rattle.transfer_rules.specs.Operations.{Operation, class_of, result_of}
+use Rattle.transfer_rules.specs.Rules.{Operation, class_of, result_of}
 
 -- the operands and their masks are words
 abbrev pub AreWords : Operands → Type 0

@@ -8,7 +8,7 @@ use Rattle.transfer_rules.specs.declared.classes.Class.TheVariants.{Sll, Srl, Sr
 use Rattle.transfer_rules.specs.declared.classes.Class.TheVariants.{Divu, Rem, Remu}
 use Rattle.transfer_rules.specs.declared.operands.Operands.{Operands}
 use Rattle.transfer_rules.specs.declared.ranges.Bounds.{Bounds}
-use Rattle.transfer_rules.specs.ShiftRanges.{shift_range}
+use Rattle.transfer_rules.specs.Shifts3.{shift_range}
 use Rattle.transfer_rules.specs.Table1.{either, flipped}
 use Rattle.transfer_rules.specs.Table2.{least, greatest, mask_by_table_2}
 

@@ -3,7 +3,7 @@
 ghost use Rattle.std.specs.Prelude.{◌≡◌, ◌≢◌, ◌%◌, None, IfSome, IsTrue};
 ghost use Rattle.rv32im_decode.specs.Operations.{target_of, word_of};
 ghost use Rattle.transfer_rules.specs.Classes.{instruction_class, takes_address};
-ghost use Rattle.transfer_rules.specs.Operations.{computed};
+ghost use Rattle.transfer_rules.specs.Rules.{computed};
 ghost use Rattle.transfer_rules.specs.Soundness.{IsEvenForTarget, IsSoundAddress, IsSoundSum, KeepsMask};
 ghost use Rattle.transfer_rules.specs.Tables.{IsByTable, mask_of_address, mask_of_target, sum_operands};
 ghost use Rattle.transfer_rules.specs.declared.classes.Class.TheVariants.{Add};

@@ -3,7 +3,7 @@
 //! are, the shift gives the same bits outside the mask.
 
 ghost use Rattle.std.specs.Prelude.{◌≡◌, IsTrue};
-ghost use Rattle.transfer_rules.specs.ShiftRanges.{is_shift, may_shift_by, shift_range};
+ghost use Rattle.transfer_rules.specs.Shifts3.{is_shift, may_shift_by, shift_range};
 ghost use Rattle.transfer_rules.specs.Soundness.{IsSound};
 ghost use Rattle.transfer_rules.specs.Table3.{mask_by_table_3};
 ghost use Rattle.transfer_rules.specs.declared.classes.Class.TheVariants.{Sll, Srl, Sra};

@@ -4,7 +4,7 @@ use Rattle.cut_file.specs.declared.points.CutPoint.{CutPoint}
 use Rattle.flow_base.specs.declared.lists.NoMemory.{NoMemory}
 use Rattle.flow_base.specs.declared.points.Point.{Point}
 use Rattle.crossing_bits.specs.Askers.{Asker, feed, Fed'}
-use Rattle.crossing_bits.specs.Streams.{Stream, left_of}
+use Rattle.crossing_bits.specs.Strings.{Stream, left_of}
 use Rattle.replay_machine.specs.Runs.{Masks}
 use Rattle.replay_machine.specs.Visits.{IsAhead}
 use Rattle.rv32im_machine.specs.Language.{Walk, Looked, Passed, Moved, Saved, Restored, Ended}

@@ -1,7 +1,7 @@
 -- What a turn of a walk does.
 use Rattle.std.specs.Prelude.{◌≡◌, ℕ, List, drop, Bool, Option, Some, None, IsTrue}
 use Rattle.crossing_bits.specs.Askers.{Asker, feed, Fed'}
-use Rattle.crossing_bits.specs.Streams.{Stream, left_of}
+use Rattle.crossing_bits.specs.Strings.{Stream, left_of}
 use Rattle.enclosure_regions.specs.declared.region_parts.Region.{Region}
 use Rattle.rv32im_machine.specs.Playing.{Finished}
 use Rattle.rv32im_machine.specs.State.{State}

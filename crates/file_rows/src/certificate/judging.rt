@@ -1,6 +1,6 @@
 ghost use Rattle.std.specs.Prelude.{◌<◌, ◌^◌, length, IfErr, IfOk};
 ghost use Rattle.flow_certificate.specs.Certificates.{IsFormFault};
-ghost use Rattle.file_rows.specs.Judged.{IsJudged};
+ghost use Rattle.file_rows.specs.Judging.{IsJudged};
 
 use flow_certificate::{CertVerdict, FormFault, read_certificate, verify};
 use std::alloc::Global;

@@ -11,7 +11,7 @@ pub struct RangeText(pub Range);
 
 impl fmt::Display for BaseText {
     ghost use Rattle.std.specs.Prelude.{Some};
-    ghost use Rattle.file_rows.specs.Texts.{base_text};
+    ghost use Rattle.file_rows.specs.Ranges.{base_text};
 
     ghost output = { λ shown. Some (base_text shown.0) };
 
@@ -25,7 +25,7 @@ impl fmt::Display for BaseText {
 
 impl fmt::Display for RangeText {
     ghost use Rattle.std.specs.Prelude.{Some};
-    ghost use Rattle.file_rows.specs.Texts.{range_text};
+    ghost use Rattle.file_rows.specs.Ranges.{range_text};
 
     ghost output = { λ shown. Some (range_text shown.0) };
 

@@ -1,5 +1,5 @@
 ghost use Rattle.std.specs.Prelude.{◌≡◌, ◌<◌, ◌^◌, ◌↔◌, IfSome, IsTrue, length};
-ghost use Rattle.file_rows.specs.Words.{IsAssembledTo, IsListed, IsRefused, has_bytes as shows};
+ghost use Rattle.file_rows.specs.Agreeing.{IsAssembledTo, IsListed, IsRefused, has_bytes as shows};
 ghost use Rattle.elf32_loader.specs.Images.{image_picture};
 
 use elf32_loader::Image;

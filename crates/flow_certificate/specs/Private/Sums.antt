@@ -3,7 +3,7 @@ use Rattle.std.specs.Prelude.{◌≡◌, ℕ, ◌+◌, ◌^◌, ◌<◌, ◌==�
 use Rattle.flow_graph.specs.declared.ends.Arc.{Arc}
 use Rattle.flow_graph.specs.declared.graphs.Graph.{Graph}
 use Rattle.max_flow.specs.declared.answers.Solved.{Solved}
-use Rattle.max_flow.specs.NodeNumbers.{head_of, tail_of}
+use Rattle.max_flow.specs.Building.{head_of, tail_of}
 use Rattle.max_flow.specs.Private.GraphNetworks.{network_of}
 use Rattle.max_flow.specs.Private.Networks.{at_node, sum_below}
 

@@ -3,7 +3,7 @@
 use Rattle.std.specs.Prelude.{◌≡◌, ℕ, ◌+◌, ◌≤◌, List, [], ◌++◌, length, Bool, true, false, Option, Some, None, IsTrue}
 use Rattle.flow_base.specs.declared.points.Point.{Point}
 use Rattle.crossing_bits.specs.Askers.{Fed, Fed', feed}
-use Rattle.crossing_bits.specs.Streams.{Stream}
+use Rattle.crossing_bits.specs.Strings.{Stream}
 use Rattle.rv32im_machine.specs.State.{State}
 use Rattle.rv32im_machine.specs.Folds.{real_end}
 use Rattle.rv32im_machine.specs.declared.stepping.Stepped.{Stepped}

@@ -4,7 +4,7 @@ ghost use Rattle.cut_file.specs.Pictures.{cut_picture};
 ghost use Rattle.lockstep_replay.specs.Tasks.{task_of};
 ghost use Rattle.lockstep_replay.specs.Verdicts.{First};
 ghost use Rattle.elf32_loader.specs.Images.{image_picture};
-ghost use Rattle.machine_rows.specs.Accepted.{IsAccepted, IsJudgement, limits};
+ghost use Rattle.machine_rows.specs.Runs.{IsAccepted, IsJudgement, limits};
 
 use cut_file::{Cut, read_cut};
 use elf32_loader::{Image, load_image};

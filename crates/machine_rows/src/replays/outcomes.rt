@@ -1,5 +1,5 @@
 ghost use Rattle.std.specs.Prelude.{◌≡◌, length};
-ghost use Rattle.crossing_bits.specs.Streams.{left_of};
+ghost use Rattle.crossing_bits.specs.Strings.{left_of};
 ghost use Rattle.replay_machine.specs.Standing.{mark_of, turn_answer};
 
 use crossing_bits::Bits;

@@ -2,7 +2,7 @@
 -- to a second half with the point's capacity as its limit, and then the links, all open, in the graph's order.
 use Rattle.std.specs.Prelude.{ℕ, zero, suc, ◌+◌, ◌*◌, ◌++◌, max, List, [], ◌∷◌, length, map}
 use Rattle.flow_graph.specs.declared.graphs.Graph.{Graph}
-use Rattle.max_flow.specs.NodeNumbers.{tail_of, head_of}
+use Rattle.max_flow.specs.Building.{tail_of, head_of}
 use Rattle.max_flow.specs.Private.Networks.{Net}
 
 -- start, start + 2, .. : n numbers

@@ -4,7 +4,7 @@ use Rattle.max_flow.specs.declared.networks.Network.{Network}
 use Rattle.max_flow.specs.declared.searching.Tree.{Tree}
 use Rattle.max_flow.specs.Private.Networks.{Net, IsNet, IsFlow, source_flow}
 use Rattle.max_flow.specs.Flows.{AreAtMost}
-use Rattle.max_flow.specs.Private.Adjacency.{AreChains}
+use Rattle.max_flow.specs.Private.Chains.{AreChains}
 use Rattle.max_flow.specs.Private.Balances.{IsFlowOfValue}
 use Rattle.max_flow.specs.Private.Searching.{IsFound, is_found}
 use Rattle.max_flow.specs.Private.Rooms.{IsClosed}

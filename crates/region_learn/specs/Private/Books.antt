@@ -10,7 +10,7 @@ use Rattle.enclosure_regions.specs.Regions.{are_distinct, ids_of}
 use Rattle.region_machine.specs.Enclosures.{Kind, Enters, Leaves, Steps}
 use Rattle.region_learn.specs.declared.notes.Notes.{Notes}
 use Rattle.region_learn.specs.Private.Marks.{has_bit}
-use Rattle.region_learn.specs.Private.Noting.{has_place}
+use Rattle.region_learn.specs.Private.Notes.{has_place}
 use Rattle.region_learn.specs.Written.{is_leave_of, is_step_in, some_turn, leaves_changed, walk_writes, writes_in}
 
 abbrev pub numbers_of : List Notes → List ℕ

@@ -2,7 +2,7 @@
 use Rattle.std.specs.Prelude.{◌≡◌, ℕ, zero, suc, ◌≤◌, List, Bool, None}
 use Rattle.cut_file.specs.declared.points.CutPoint.{CutPoint}
 use Rattle.crossing_bits.specs.Askers.{Asker, Fed, Fed', Short, feed}
-use Rattle.crossing_bits.specs.Streams.{Stream, left_of}
+use Rattle.crossing_bits.specs.Strings.{Stream, left_of}
 use Rattle.rv32im_machine.specs.State.{State}
 use Rattle.rv32im_machine.specs.Playing.{Played, Finished, Halted}
 use Rattle.replay_machine.specs.Runs.{ReplayPlace, Masks}

@@ -1,5 +1,5 @@
 use Rattle.std.proofs.Common.{◌≡◌, ◌++◌, drop}
-use Rattle.elf32_loader.specs.Written.{contents}
+use Rattle.elf32_loader.specs.Writing.{contents}
 use Rattle.elf32_loader.proofs.writing.put_contents.Given as goal
 
 abbrev pub invariant-loop-segment : goal.invariant-loop-segment

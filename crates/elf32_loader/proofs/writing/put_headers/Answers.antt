@@ -1,5 +1,5 @@
 use Rattle.std.proofs.Common.{◌≡◌, ◌+◌, ◌++◌, ◌∙◌, List, length, ap, arith, drop, ℕ}
-use Rattle.elf32_loader.specs.Written.{program_header, program_headers}
+use Rattle.elf32_loader.specs.Writing.{program_header, program_headers}
 use Rattle.elf32_loader.proofs.Putting.{contents_more, headers_more}
 use Rattle.elf32_loader.proofs.writing.put_headers.Goals as goal
 

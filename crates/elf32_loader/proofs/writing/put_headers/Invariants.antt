@@ -1,5 +1,5 @@
 use Rattle.std.proofs.Common.{◌≡◌, ◌+◌, ◌<◌, ◌^◌, ◌++◌, length, drop}
-use Rattle.elf32_loader.specs.Written.{contents, program_headers}
+use Rattle.elf32_loader.specs.Writing.{contents, program_headers}
 use Rattle.elf32_loader.proofs.writing.put_headers.Given as goal
 
 abbrev pub invariant-loop-segment : goal.invariant-loop-segment

@@ -1,6 +1,6 @@
 use Rattle.std.proofs.Common.{List, ap, arith, length}
 use Rattle.elf32_loader.specs.declared.segments.Segment.{Segment}
-use Rattle.elf32_loader.specs.Written.{contents}
+use Rattle.elf32_loader.specs.Writing.{contents}
 use Rattle.elf32_loader.proofs.Putting.{contents_fit}
 use Rattle.elf32_loader.proofs.writing.write_image.Goals as goal
 

@@ -1,6 +1,6 @@
 use Rattle.std.proofs.Common.{◌≡◌, ◌+◌, ◌^◌, ◌≤◌, length, All}
 use Rattle.every_secret.specs.Bounds.{output_count}
-use Rattle.every_secret.specs.Private.Ceilings.{sum_of_powers}
+use Rattle.every_secret.specs.Private.Numbers.{sum_of_powers}
 use Rattle.every_secret.proofs.numbers.all_free_bits.Given as goal
 
 abbrev pub invariant-loop-rest : goal.invariant-loop-rest

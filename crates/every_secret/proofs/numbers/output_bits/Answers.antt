@@ -1,7 +1,7 @@
 use Rattle.std.proofs.Common.{◌≤◌, ◌^◌, ap, sym, subst, ◌∙◌}
 use Rattle.std.proofs.lemmas.List.Sorted.{All-permutation, IsNonDecreasingBy-from_sort, sum_by-IsPermutation}
 use Rattle.every_secret.specs.Bounds.{IsLeastPower}
-use Rattle.every_secret.specs.Private.Ceilings.{Ascend, sum_of_powers}
+use Rattle.every_secret.specs.Private.Numbers.{Ascend, sum_of_powers}
 use Rattle.every_secret.proofs.Ceilings.{ascend_from_sorted}
 use Rattle.every_secret.proofs.numbers.output_bits.Goals as goal
 

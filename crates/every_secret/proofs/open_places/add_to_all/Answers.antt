@@ -4,7 +4,7 @@ use Rattle.std.proofs.lemmas.List.{take_all, drop_all}
 use Rattle.std.specs.Prelude.{slice_index_or}
 use Rattle.every_secret.specs.declared.open_places.OpenPlace.{OpenPlace}
 use Rattle.every_secret.specs.declared.sums.Sum.{Sum}
-use Rattle.every_secret.specs.Private.Opened.{with_sum}
+use Rattle.every_secret.specs.Private.OpenPlaces.{with_sum}
 use Rattle.every_secret.proofs.open_places.add_to_all.Goals as goal
 
 set_next : {A : Type 0} (f : A → A) (items : List A) (place : ℕ) (next other : A) → place < length items →

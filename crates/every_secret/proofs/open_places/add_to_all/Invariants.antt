@@ -1,5 +1,5 @@
 use Rattle.std.proofs.Common.{◌≡◌, ◌++◌, map, take, drop}
-use Rattle.every_secret.specs.Private.Opened.{with_sum}
+use Rattle.every_secret.specs.Private.OpenPlaces.{with_sum}
 use Rattle.every_secret.proofs.open_places.add_to_all.Given as goal
 
 abbrev pub invariant-loop-place : goal.invariant-loop-place

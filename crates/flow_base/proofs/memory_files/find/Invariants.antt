@@ -1,5 +1,5 @@
 use Rattle.std.proofs.Common.{◌≡◌, drop}
-use Rattle.flow_base.specs.Memory.{held_under}
+use Rattle.flow_base.specs.MemoryFiles.{held_under}
 use Rattle.flow_base.proofs.memory_files.find.Given as goal
 
 abbrev pub invariant-loop-held : goal.invariant-loop-held

@@ -1,5 +1,5 @@
 use Rattle.std.proofs.Common.{◌≡◌, drop}
-use Rattle.flow_base.specs.Room.{fail_of}
+use Rattle.flow_base.specs.MemorySink.{fail_of}
 use Rattle.flow_base.proofs.memory_sink.fail_at.Given as goal
 
 abbrev pub invariant-loop-fail : goal.invariant-loop-fail

@@ -1,6 +1,6 @@
 use Rattle.std.proofs.Common.{◌∙◌, sym, ap, arith}
 use Rattle.cut_file.specs.Masks.{MaskAt}
-use Rattle.crossing_bits.specs.Streams.{left_of}
+use Rattle.crossing_bits.specs.Strings.{left_of}
 use Rattle.replay_machine.specs.Runs.{replay_turn}
 use Rattle.lockstep_replay.specs.Private.Standings.{why_answered}
 use Rattle.lockstep_replay.specs.Private.Turning.{fed_turn}

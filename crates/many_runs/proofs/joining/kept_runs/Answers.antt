@@ -1,6 +1,6 @@
 use Rattle.std.proofs.Common.{◌∙◌, ◌++◌, ◌∷◌, [], ap, sym}
 use Rattle.std.specs.Option.{option_copied}
-use Rattle.measuring.specs.KeptMasks.{masks_if_any}
+use Rattle.measuring.specs.KeptVisits.{masks_if_any}
 use Rattle.measuring.specs.VisitRuns.{run_masks}
 use Rattle.measuring.proofs.VisitRuns.{masks_none}
 use Rattle.many_runs.proofs.joining.kept_runs.Goals as goal

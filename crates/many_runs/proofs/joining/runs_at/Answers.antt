@@ -1,7 +1,7 @@
 use Rattle.std.proofs.Common.{◌∙◌, ◌++◌, ap, replicate}
 use Rattle.std.specs.Map.{lookup}
 use Rattle.flow_base.specs.PointOrders.{is_same}
-use Rattle.measuring.specs.KeptMasks.{masks_if_any}
+use Rattle.measuring.specs.KeptVisits.{masks_if_any}
 use Rattle.measuring.specs.VisitRuns.{run_masks}
 use Rattle.measuring.proofs.VisitRuns.{masks_push}
 use Rattle.many_runs.proofs.joining.runs_at.Goals as goal

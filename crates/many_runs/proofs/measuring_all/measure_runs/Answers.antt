@@ -3,7 +3,7 @@ use Rattle.std.specs.Result.{IfOk}
 use Rattle.std.proofs.lemmas.Result.{IfErr-weaker}
 use Rattle.flow_graph.specs.declared.events.Event.{Event}
 use Rattle.many_runs.specs.Private.Recordings.{AllKeep, RecordsUnion}
-use Rattle.many_runs.specs.Private.Weighing.{WeighsAll}
+use Rattle.many_runs.specs.Private.WeighingAll.{WeighsAll}
 use Rattle.many_runs.proofs.WeighedRuns.{fitting, unweighed, weighed}
 use Rattle.many_runs.proofs.measuring_all.measure_runs.Goals as goal
 

@@ -2,7 +2,7 @@ use Rattle.std.proofs.Common.{◌≡◌, ℕ, ◌%◌, ◌<◌, true, false, get
 use Rattle.std.specs.BTreeSet as sorted
 use Rattle.flow_base.specs.declared.points.Point.{Point}
 use Rattle.flow_base.specs.PointOrders.{point_cmp}
-use Rattle.many_runs.specs.Private.Places.{point_at}
+use Rattle.many_runs.specs.Private.Points.{point_at}
 use Rattle.many_runs.proofs.points.put_row.Given as goal
 
 abbrev pub invariant-loop-column : goal.invariant-loop-column

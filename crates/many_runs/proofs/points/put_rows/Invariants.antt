@@ -3,7 +3,7 @@ use Rattle.std.specs.BTreeSet as sorted
 use Rattle.flow_base.specs.declared.points.Point.{Point}
 use Rattle.flow_base.specs.PointOrders.{point_cmp}
 use Rattle.measuring.specs.Counts.{count_at}
-use Rattle.many_runs.specs.Private.Places.{point_at}
+use Rattle.many_runs.specs.Private.Points.{point_at}
 use Rattle.many_runs.proofs.points.put_rows.Given as goal
 
 abbrev pub invariant-loop-left : goal.invariant-loop-left

@@ -1,6 +1,6 @@
 use Rattle.std.specs.BTreeSet as sorted
 use Rattle.flow_base.specs.PointOrders.{point_cmp}
-use Rattle.many_runs.specs.Private.Places.{point_at}
+use Rattle.many_runs.specs.Private.Points.{point_at}
 use Rattle.many_runs.proofs.PutPoints.{keeps, no_visits}
 use Rattle.many_runs.proofs.points.put_visits.Goals as goal
 

@@ -6,7 +6,7 @@ use Rattle.measuring.proofs.RunCut.{cut_is}
 use Rattle.measuring.proofs.CutNames.{cut_is_in}
 use Rattle.measuring.proofs.FittingPoints.{nodes_known, points_fit}
 use Rattle.measuring.proofs.GraphWithinLimits.{recorded_within, recorded_exceeds_none}
-use Rattle.many_runs.specs.Private.Weighing.{HasFittingEvents}
+use Rattle.many_runs.specs.Private.WeighingAll.{HasFittingEvents}
 use Rattle.many_runs.proofs.FewCutPoints.{points_are_few}
 use Rattle.many_runs.proofs.weighing_all.weigh_all.Goals as goal
 

@@ -1,5 +1,5 @@
 use Rattle.std.proofs.Common.{◌^◌, ◌<◌, ◌++◌, ◌∷◌, [], ap, ◌∙◌, arith}
-use Rattle.max_flow.specs.NodeNumbers.{tail_of, head_of}
+use Rattle.max_flow.specs.Building.{tail_of, head_of}
 use Rattle.max_flow.proofs.Graphs.{few_at, map_more}
 use Rattle.max_flow.proofs.building.push_ends.Goals as goal
 

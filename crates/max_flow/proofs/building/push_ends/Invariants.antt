@@ -1,5 +1,5 @@
 use Rattle.std.proofs.Common.{◌≡◌, ◌++◌, map, take}
-use Rattle.max_flow.specs.NodeNumbers.{tail_of, head_of}
+use Rattle.max_flow.specs.Building.{tail_of, head_of}
 use Rattle.max_flow.proofs.building.push_ends.Given as goal
 
 abbrev pub invariant-loop-link : goal.invariant-loop-link

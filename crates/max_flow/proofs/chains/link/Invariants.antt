@@ -1,5 +1,5 @@
 use Rattle.std.proofs.Common.{length}
-use Rattle.max_flow.specs.Private.Adjacency.{AreChains}
+use Rattle.max_flow.specs.Private.Chains.{AreChains}
 use Rattle.max_flow.proofs.chains.link.Given as goal
 
 abbrev pub invariant-loop-i : goal.invariant-loop-i

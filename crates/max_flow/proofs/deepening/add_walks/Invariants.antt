@@ -3,7 +3,7 @@ use Rattle.max_flow.specs.Flows.{AreAtMost}
 use Rattle.max_flow.specs.Private.Networks.{IsFlow, source_flow}
 use Rattle.max_flow.specs.Private.Rooms.{IsBounded}
 use Rattle.max_flow.specs.Private.Solving.{net_of, IsTree}
-use Rattle.max_flow.specs.Private.Stacks.{AreCursors}
+use Rattle.max_flow.specs.Private.Deepening.{AreCursors}
 use Rattle.max_flow.proofs.deepening.add_walks.Given as goal
 
 abbrev pub invariant-loop : goal.invariant-loop

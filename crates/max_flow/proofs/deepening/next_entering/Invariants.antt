@@ -1,5 +1,5 @@
 use Rattle.std.proofs.Common.{slice_index}
-use Rattle.max_flow.specs.Private.Stacks.{AreCursors}
+use Rattle.max_flow.specs.Private.Deepening.{AreCursors}
 use Rattle.max_flow.proofs.deepening.next_entering.Given as goal
 
 abbrev pub invariant-loop-entering : goal.invariant-loop-entering

@@ -1,5 +1,5 @@
 use Rattle.std.proofs.Common.{length}
-use Rattle.max_flow.specs.Private.Stacks.{IsStack}
+use Rattle.max_flow.specs.Private.Deepening.{IsStack}
 use Rattle.max_flow.proofs.deepening.restart.Given as goal
 
 abbrev pub invariant-loop-tree : goal.invariant-loop-tree

@@ -1,6 +1,6 @@
 use Rattle.std.proofs.Common.{◌+◌, length, refl, ap, ◌∙◌, rules}
 use Rattle.std.proofs.lemmas.List.{length_push}
-use Rattle.max_flow.specs.Private.Marks.{found_marks}
+use Rattle.max_flow.specs.Private.Sides.{found_marks}
 use Rattle.max_flow.proofs.FoundNodesAreMembers.{marks_push, found_more}
 use Rattle.max_flow.proofs.sides.found_halves.Goals as goal
 

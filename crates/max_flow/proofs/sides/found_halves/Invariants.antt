@@ -1,6 +1,6 @@
 use Rattle.std.proofs.Common.{◌≡◌, length}
-use Rattle.max_flow.specs.Private.Marks.{marks}
-use Rattle.max_flow.specs.Private.Marks.{found_marks}
+use Rattle.max_flow.specs.Private.Sides.{marks}
+use Rattle.max_flow.specs.Private.Sides.{found_marks}
 use Rattle.max_flow.proofs.sides.found_halves.Given as goal
 
 abbrev pub invariant-loop-i : goal.invariant-loop-i

@@ -3,7 +3,7 @@ use Rattle.std.specs.Prelude.{map}
 use Rattle.cut_file.specs.declared.points.CutPoint.{CutPoint}
 use Rattle.cut_file.specs.Cuts.{are_points}
 use Rattle.cut_file.proofs.Following.{points_known}
-use Rattle.replay_machine.specs.Private.Trims.{trimmed}
+use Rattle.replay_machine.specs.Private.Copies.{trimmed}
 use Rattle.replay_machine.specs.Visits.{SameAhead}
 use Rattle.replay_machine.proofs.Trimming.{trimmed_known, trimmed_same}
 use Rattle.replay_machine.proofs.copies.cut_points.Goals as goal

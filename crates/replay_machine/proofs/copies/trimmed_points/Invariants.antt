@@ -1,6 +1,6 @@
 use Rattle.std.proofs.Common.{◌≡◌, take}
 use Rattle.std.specs.Prelude.{map}
-use Rattle.replay_machine.specs.Private.Trims.{trimmed}
+use Rattle.replay_machine.specs.Private.Copies.{trimmed}
 use Rattle.replay_machine.proofs.copies.trimmed_points.Given as goal
 
 abbrev pub invariant-loop-cut_point : goal.invariant-loop-cut_point

@@ -1,5 +1,5 @@
 use Rattle.std.proofs.Common.{[], refl, sym}
-use Rattle.crossing_bits.specs.Streams.{left_of}
+use Rattle.crossing_bits.specs.Strings.{left_of}
 use Rattle.cut_file.specs.Masks.{MaskAt}
 use Rattle.replay_machine.specs.ReplayTurns.{replay_kind_walk}
 use Rattle.region_machine.specs.Within.{seen}

@@ -1,6 +1,6 @@
 use Rattle.std.proofs.Common.{◌≡◌, ◌*◌, length}
 use Rattle.flow_base.specs.Guests.{memory_size}
-use Rattle.rv32im_machine.specs.Pages.{AreZeroBelow, AreZeroUntouched}
+use Rattle.rv32im_machine.specs.GuestMemory.{AreZeroBelow, AreZeroUntouched}
 use Rattle.rv32im_machine.proofs.guest_memory.zero_touched.Given as goal
 
 abbrev pub invariant-loop-page : goal.invariant-loop-page

@@ -1,5 +1,5 @@
 use Rattle.std.proofs.Common.{◌≡◌, ◌+◌, ◌++◌, drop}
-use Rattle.task_answers.specs.BoundTexts.{pattern_lines}
+use Rattle.task_answers.specs.BoundLines.{pattern_lines}
 use Rattle.task_answers.proofs.bound_lines.pattern_lines.Given as goal
 
 abbrev pub invariant-loop-place : goal.invariant-loop-place

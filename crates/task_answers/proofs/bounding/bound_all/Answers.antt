@@ -3,7 +3,7 @@ use Rattle.std.proofs.lemmas.Result.{IfOk-weaker}
 use Rattle.every_secret.specs.AnyPublic.{seen_task}
 use Rattle.every_secret.specs.Bounds.{IsVerdict}
 use Rattle.command_tasks.specs.ReadTasks.{all_secrets_in}
-use Rattle.task_answers.specs.AllSecrets.{bound_limits, bound_of, public_of, rules_by}
+use Rattle.task_answers.specs.Bounding.{bound_limits, bound_of, public_of, rules_by}
 use Rattle.task_answers.specs.Checks.{judged_by}
 use Rattle.task_answers.proofs.BoundAnswers.{bounded_answers}
 use Rattle.task_answers.proofs.bounding.bound_all.Goals as goal

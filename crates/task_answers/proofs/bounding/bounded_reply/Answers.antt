@@ -3,8 +3,8 @@ use Rattle.std.proofs.lemmas.Grind.{common_steps}
 use Rattle.every_secret.specs.Bounds.{IsLeastPower, Summary, output_count, summary_in, summary_of}
 use Rattle.command_tasks.specs.declared.statuses.Status.TheVariants.{Done}
 use Rattle.command_tasks.specs.ReadTasks.{all_secrets_in}
-use Rattle.task_answers.specs.AllSecrets.{bounded_text}
-use Rattle.task_answers.specs.BoundTexts.{public_text}
+use Rattle.task_answers.specs.Bounding.{bounded_text}
+use Rattle.task_answers.specs.BoundLines.{public_text}
 use Rattle.task_answers.proofs.bounding.bounded_reply.Goals as goal
 
 pub returns : goal.returns

@@ -4,7 +4,7 @@ use Rattle.every_secret.specs.AnyPublic.{TellsOf, seen_task}
 use Rattle.every_secret.specs.Bounds.{BoundOf, IsVerdict}
 use Rattle.every_secret.specs.Rules.{AnswerAs}
 use Rattle.command_tasks.specs.ReadTasks.{all_secrets_in}
-use Rattle.task_answers.specs.AllSecrets.{bound_limits, public_of, rules_by}
+use Rattle.task_answers.specs.Bounding.{bound_limits, public_of, rules_by}
 use Rattle.task_answers.specs.Checks.{judged_by}
 use Rattle.task_answers.proofs.TableRules.{table_rules}
 use Rattle.task_answers.proofs.bounding.verdict_on.Goals as goal

@@ -5,7 +5,7 @@ use Rattle.lockstep_replay.specs.LentTasks.{task_in}
 use Rattle.command_tasks.specs.ReadTasks.{guest_in}
 use Rattle.task_answers.specs.Private.JudgedLimits.{limits_in}
 use Rattle.task_answers.specs.Checks.{judged_by}
-use Rattle.task_answers.specs.Findings.{AreFindings}
+use Rattle.task_answers.specs.Finding.{AreFindings}
 use Rattle.task_answers.proofs.FindingLines.{length_findings, made_reply}
 use Rattle.task_answers.proofs.finding.find_secrets.Goals as goal
 

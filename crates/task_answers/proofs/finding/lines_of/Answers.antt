@@ -4,7 +4,7 @@ use Rattle.std.proofs.lemmas.Grind.{common_steps}
 use Rattle.std.proofs.lemmas.List.{drop_more}
 use Rattle.lockstep_replay.specs.LentTasks.{limits_in, task_in}
 use Rattle.taint_check.specs.Tainted.{Finding, finding_of}
-use Rattle.task_answers.specs.Findings.{AreFindings}
+use Rattle.task_answers.specs.Finding.{AreFindings}
 use Rattle.task_answers.proofs.FindingLines.{all_findings, next_finding}
 use Rattle.task_answers.proofs.finding.lines_of.Goals as goal
 

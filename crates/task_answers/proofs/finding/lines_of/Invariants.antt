@@ -1,7 +1,7 @@
 use Rattle.std.proofs.Common.{◌≡◌, ◌≤◌, ◌+◌, ◌++◌, List, drop}
 use Rattle.lockstep_replay.specs.LentTasks.{limits_in, task_in}
 use Rattle.taint_check.specs.Tainted.{Finding}
-use Rattle.task_answers.specs.Findings.{AreFindings}
+use Rattle.task_answers.specs.Finding.{AreFindings}
 use Rattle.task_answers.specs.Texts.{clean_count, finding_lines}
 use Rattle.task_answers.proofs.finding.lines_of.Given as goal
 

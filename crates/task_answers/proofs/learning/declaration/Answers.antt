@@ -4,7 +4,7 @@ use Rattle.region_learn.specs.declared.faults.LearnFault.TheVariants.{Memory as 
 use Rattle.command_tasks.specs.declared.refusals.Refusal.TheVariants.{Learn}
 use Rattle.command_tasks.specs.ReadTasks.{guest_in}
 use Rattle.command_tasks.proofs.Refusing.{refused_first}
-use Rattle.task_answers.specs.Declarations.{learnt_run}
+use Rattle.task_answers.specs.Learning.{learnt_run}
 use Rattle.task_answers.proofs.learning.declaration.Goals as goal
 
 pub returns-in_err-regions-clause-err : goal.returns-in_err-regions-clause-err

@@ -3,7 +3,7 @@ use Rattle.std.proofs.lemmas.Grind.{common_steps}
 use Rattle.std.proofs.lemmas.Result.{err_from_is_err_and}
 use Rattle.command_tasks.specs.Tasks.{RunTask}
 use Rattle.command_tasks.proofs.Refusing.{known_refusal}
-use Rattle.task_answers.specs.Answers.{done_by}
+use Rattle.task_answers.specs.Replies.{done_by}
 use Rattle.task_answers.specs.Runs.{IsMeasured, IsRunRefusal}
 use Rattle.task_answers.proofs.trials.try_run.Goals as goal
 

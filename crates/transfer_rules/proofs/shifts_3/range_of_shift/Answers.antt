@@ -1,7 +1,7 @@
 use Rattle.std.proofs.Common.{◌≡◌, ℕ, arith, rules, sym, ap, ap₂, ◌∙◌}
 use Rattle.std.specs.Prelude.{bit_and}
 use Rattle.rv32im_decode.specs.Operations.{op_result}
-use Rattle.transfer_rules.specs.ShiftRanges.{in_some}
+use Rattle.transfer_rules.specs.Shifts3.{in_some}
 use Rattle.transfer_rules.specs.Table1.{flipped}
 use Rattle.transfer_rules.specs.Table2.{least, greatest}
 use Rattle.transfer_rules.proofs.ShiftRanges.{one_amount, amounts_none, taken_step, skipped_step}

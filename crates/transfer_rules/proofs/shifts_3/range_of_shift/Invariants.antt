@@ -1,6 +1,6 @@
 use Rattle.std.proofs.Common.{◌≡◌}
 use Rattle.rv32im_decode.specs.Operations.{op_result}
-use Rattle.transfer_rules.specs.ShiftRanges.{in_some}
+use Rattle.transfer_rules.specs.Shifts3.{in_some}
 use Rattle.transfer_rules.specs.Table1.{flipped}
 use Rattle.transfer_rules.specs.Table2.{least, greatest}
 use Rattle.transfer_rules.proofs.shifts_3.range_of_shift.Given as goal

@@ -1,7 +1,7 @@
 use Rattle.std.proofs.Common.{refl, ◌∷◌, arith}
 use Rattle.masked_turns.specs.Clearing.{Cutting}
 use Rattle.tracked_run.specs.Labels.{labels_of}
-use Rattle.every_secret.specs.Private.Ends.{lengthens_none}
+use Rattle.every_secret.specs.Private.Walking.{lengthens_none}
 use Rattle.every_secret.specs.Private.Tapes.{knowledge_of, ruling_of, tape_of}
 use Rattle.every_secret.proofs.IdleVisits.{ahead_stays, idle_visited}
 use Rattle.every_secret.proofs.Nodes.{masks-passed, over_passed}

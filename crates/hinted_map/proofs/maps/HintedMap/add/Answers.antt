@@ -5,7 +5,7 @@ use Rattle.std.specs.Map.{keys_of, lookup}
 use Rattle.std.specs.Ordering.{eq_by_cmp}
 use Rattle.std.specs.Prelude.{slice_get}
 use Rattle.indexmap.proofs.CallerLemmas.{insert_entry-new}
-use Rattle.hinted_map.specs.Places.{Puts}
+use Rattle.hinted_map.specs.Maps.{Puts}
 use Rattle.hinted_map.proofs.Places.{last_at, stands}
 use Rattle.hinted_map.proofs.maps.HintedMap.add.Goals as goal
 

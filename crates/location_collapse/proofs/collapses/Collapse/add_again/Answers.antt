@@ -1,10 +1,10 @@
 use Rattle.std.proofs.Common.{◌≡◌, ◌∷◌, [], true, sym, ap, ◌∙◌, subst, inr, Err}
 use Rattle.std.proofs.lemmas.Bool.{OnTrue_at}
 use Rattle.std.specs.Map.{keys_of}
-use Rattle.flow_graph.specs.Again.{again_events}
+use Rattle.flow_graph.specs.Events.{again_events}
 use Rattle.flow_graph.specs.declared.events.Event.TheVariants.{Pass, Link, Out}
 use Rattle.location_collapse.specs.Collapses.{HasAgainLinks}
-use Rattle.location_collapse.specs.LatestLinks.{has_flow, has_output}
+use Rattle.location_collapse.specs.KeptLinks.{has_flow, has_output}
 use Rattle.location_collapse.proofs.EventSteps.{taken_again}
 use Rattle.location_collapse.proofs.EventsInTurn.{allows_of, refuses_rest}
 use Rattle.location_collapse.proofs.collapses.Collapse.add_again.Goals as goal

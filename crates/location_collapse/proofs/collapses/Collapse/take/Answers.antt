@@ -6,7 +6,7 @@ use Rattle.flow_graph.specs.EventGraphs.{is_among}
 use Rattle.flow_graph.specs.Keeping.{Keeps}
 use Rattle.flow_graph.specs.declared.named_links.NamedEnd.TheVariants.{At}
 use Rattle.location_collapse.specs.Collapses.{knows}
-use Rattle.location_collapse.specs.Wants.{WantsLink}
+use Rattle.location_collapse.specs.Adding.{WantsLink}
 use Rattle.location_collapse.proofs.EventSteps.{makes_link, makes_secret, makes_implicit, makes_output, no_output}
 use Rattle.location_collapse.proofs.EventSteps.{known_link}
 use Rattle.location_collapse.proofs.collapses.Collapse.take.Goals as goal

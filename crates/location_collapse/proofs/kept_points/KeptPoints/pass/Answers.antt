@@ -9,7 +9,7 @@ use Rattle.flow_base.specs.Words.{bit_count}
 use Rattle.flow_base.specs.PointOrders.{is_same}
 use Rattle.flow_graph.specs.Keeping.{capacity_in, count_in}
 use Rattle.flow_graph.proofs.MaskBitCounts.{bit_count_zero, bit_count_ones, bit_count_bound, ones_some}
-use Rattle.hinted_map.specs.Places.{StandsAt}
+use Rattle.hinted_map.specs.Maps.{StandsAt}
 use Rattle.hinted_map.proofs.Places.{value_at}
 use Rattle.location_collapse.proofs.CapacityMaps.{found_small, grows_put, counted_put}
 use Rattle.location_collapse.proofs.kept_points.KeptPoints.pass.Goals as goal

@@ -3,7 +3,7 @@ use Rattle.elf32_loader.specs.Images.{image_picture}
 use Rattle.cut_file.specs.Pictures.{cut_picture}
 use Rattle.lockstep_replay.specs.Tasks.{task_of}
 use Rattle.lockstep_replay.specs.Verdicts.{First}
-use Rattle.machine_rows.specs.Accepted.{limits}
+use Rattle.machine_rows.specs.Runs.{limits}
 use Rattle.machine_rows.proofs.compiled.runs.judge.Goals as goal
 
 pub returns : goal.returns

@@ -2,9 +2,9 @@ use Rattle.std.proofs.Common.{sym, ap, subst, ◌∙◌, ◌++◌, replicate}
 use Rattle.std.proofs.lemmas.Result.{on_ok_weaker}
 use Rattle.indexmap.specs.IndexMap.{set_value_at}
 use Rattle.flow_base.specs.PointOrders.{is_same}
-use Rattle.hinted_map.specs.Places.{StandsAt}
+use Rattle.hinted_map.specs.Maps.{StandsAt}
 use Rattle.hinted_map.proofs.Places.{value_at}
-use Rattle.measuring.specs.KeptMasks.{Adds, masks_if_any}
+use Rattle.measuring.specs.KeptVisits.{Adds, masks_if_any}
 use Rattle.measuring.proofs.AddedVisits.{adds}
 use Rattle.measuring.proofs.kept_visits.KeptVisits.again.Goals as goal
 

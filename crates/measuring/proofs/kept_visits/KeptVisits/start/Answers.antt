@@ -1,5 +1,5 @@
 use Rattle.std.proofs.Common.{sym, ap, ◌∙◌, ◌++◌, replicate}
-use Rattle.measuring.specs.KeptMasks.{masks_if_any}
+use Rattle.measuring.specs.KeptVisits.{masks_if_any}
 use Rattle.measuring.proofs.AddedVisits.{adds}
 use Rattle.measuring.proofs.kept_visits.KeptVisits.start.Goals as goal
 

@@ -1,6 +1,6 @@
 use Rattle.std.proofs.Common.{ap, ◌∙◌, Err}
 use Rattle.std.proofs.lemmas.Result.{on_ok_weaker}
-use Rattle.flow_graph.specs.Again.{again_events}
+use Rattle.flow_graph.specs.Events.{again_events}
 use Rattle.measuring.proofs.RecordedEvents.{taken, passed_over, visited_again}
 use Rattle.measuring.proofs.recordings.RecordingEvents.add_again.Goals as goal
 

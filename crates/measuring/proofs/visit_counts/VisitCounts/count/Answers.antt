@@ -2,7 +2,7 @@ use Rattle.std.proofs.Common.{sym, ap, subst, ◌∙◌}
 use Rattle.std.specs.Map.{lookup}
 use Rattle.std.proofs.lemmas.Option.{slice_get_within}
 use Rattle.flow_base.specs.PointOrders.{is_same}
-use Rattle.hinted_map.specs.Places.{StandsAt}
+use Rattle.hinted_map.specs.Maps.{StandsAt}
 use Rattle.measuring.specs.Counts.{page_of}
 use Rattle.measuring.proofs.Counters.{never_counted, no_row, value_from}
 use Rattle.measuring.proofs.visit_counts.VisitCounts.count.Goals as goal

@@ -1,4 +1,4 @@
-use Rattle.region_learn.specs.Private.Noting.{noted_of}
+use Rattle.region_learn.specs.Private.Notes.{noted_of}
 use Rattle.region_learn.proofs.NoteCalls.{looked}
 use Rattle.region_learn.proofs.notes.NotesPasser.look.Goals as goal
 

@@ -1,6 +1,6 @@
 use Rattle.std.proofs.Common.{◌∙◌, ◌||◌, ap, sym}
 use Rattle.rv32im_machine.specs.declared.language.Aim.{Aim}
-use Rattle.region_learn.specs.Private.Noting.{noted_of}
+use Rattle.region_learn.specs.Private.Notes.{noted_of}
 use Rattle.region_learn.specs.Written.{puts_into}
 use Rattle.region_learn.proofs.NoteCalls.{called, passed, unwritten}
 use Rattle.region_learn.proofs.notes.NotesPasser.pass.Goals as goal

@@ -1,4 +1,4 @@
-use Rattle.region_learn.specs.Private.Noting.{noted_of}
+use Rattle.region_learn.specs.Private.Notes.{noted_of}
 use Rattle.region_learn.proofs.NoteCalls.{stayed}
 use Rattle.region_learn.proofs.notes.NotesPasser.restore.Goals as goal
 

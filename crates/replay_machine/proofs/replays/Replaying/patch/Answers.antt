@@ -1,6 +1,6 @@
 use Rattle.std.proofs.Common.{◌≡◌, ◌≤◌, ◌∙◌, ℕ, ap, refl, sym, subst, arith, ◌-◌, length}
 use Rattle.flow_base.specs.Points.{width_of}
-use Rattle.crossing_bits.specs.Streams.{Stream, left_of}
+use Rattle.crossing_bits.specs.Strings.{Stream, left_of}
 use Rattle.flow_base.specs.Words.{bit_count}
 use Rattle.replay_machine.proofs.PatchesKeepWidth.{patched_width}
 use Rattle.replay_machine.proofs.Passings.{replays_lacking, patched_goes, short_goes}

@@ -1,5 +1,5 @@
 use Rattle.std.proofs.Common.{◌-◌, drop, ap, ◌∙◌, arith}
-use Rattle.rv32im_machine.specs.Private.Spread.{low_room}
+use Rattle.rv32im_machine.specs.Private.SparseBytes.{low_room}
 use Rattle.rv32im_machine.specs.Start.{laid_at}
 use Rattle.rv32im_machine.proofs.Spreading.{laid_parts}
 use Rattle.rv32im_machine.proofs.sparse_bytes.SparseBytes.lay_both.Goals as goal

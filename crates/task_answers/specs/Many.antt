@@ -11,7 +11,7 @@ use Rattle.command_tasks.specs.declared.refusals.Refusal.{Refusal}
 use Rattle.command_tasks.specs.declared.refusals.Refusal.TheVariants.{Runs as RunsRefused}
 use Rattle.command_tasks.specs.Refusals.{IsRefusedBy}
 use Rattle.command_tasks.specs.Tasks.{ManyRunsTask}
-use Rattle.task_answers.specs.Answers.{Answer, Reads, done_by}
+use Rattle.task_answers.specs.Replies.{Answer, Reads, done_by}
 use Rattle.task_answers.specs.CutTexts.{IsCutText}
 
 abbrev pub setup_in : ManyRunsTask → Setup

@@ -1,7 +1,7 @@
 -- Why several runs are not measured together, as it is told. Numbers are decimal.
 use Rattle.std.specs.Prelude.{ℕ, List, ◌++◌, codes}
 use Rattle.std.specs.Fmt.{decimal}
-use Rattle.run_labels.specs.FaultTexts.{run_fault_text}
+use Rattle.run_labels.specs.Faults.{run_fault_text}
 use Rattle.many_runs.specs.declared.faults.ManyFault.{ManyFault}
 use Rattle.many_runs.specs.declared.faults.ManyFault.TheVariants.{Length, Run, UnitedLimit, BudgetLimit, Memory}
 

@@ -30,10 +30,10 @@ use Rattle.command_tasks.specs.Tasks.{AllSecretsTask, ManyRunsTask, RunTask, Tas
 use Rattle.command_tasks.specs.Tasks.{ListProgram, VerifyCertificate, BoundAll, MeasureAll, MigrateCut, TryNumber}
 use Rattle.command_tasks.specs.Tasks.{IsTaskOf, wants_of}
 use Rattle.command_tasks.specs.Loading.{loaded_from}
-use Rattle.task_answers.specs.AllSecrets.{bound_of, tree_in}
+use Rattle.task_answers.specs.Bounding.{bound_of, tree_in}
 use Rattle.task_answers.specs.Checks.{judged_by, limits_of}
-use Rattle.task_answers.specs.Declarations.{learnt_run}
-use Rattle.task_answers.specs.ManyRuns.{setup_in}
+use Rattle.task_answers.specs.Learning.{learnt_run}
+use Rattle.task_answers.specs.Many.{setup_in}
 use Rattle.task_answers.specs.Runs.{start_of}
 use Rattle.task_answers.specs.Trials.{run_of_number}
 use Rattle.commands.specs.Replies.{Reply, Replies}

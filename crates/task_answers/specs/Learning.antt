@@ -14,7 +14,7 @@ use Rattle.command_tasks.specs.declared.refusals.Refusal.{Refusal}
 use Rattle.command_tasks.specs.declared.refusals.Refusal.TheVariants.{Learn}
 use Rattle.command_tasks.specs.Guests.{Guest}
 use Rattle.command_tasks.specs.Refusals.{IsRefusedBy}
-use Rattle.task_answers.specs.Answers.{Answer, Reads, done_by}
+use Rattle.task_answers.specs.Replies.{Answer, Reads, done_by}
 
 -- the run of a guest on a secret of which the declaration is learnt, and its start
 abbrev pub learnt_run : Guest → List ℕ → ℕ → LearntRun

@@ -9,7 +9,7 @@ use Rattle.flow_certificate.specs.Verdicts.{IsVerdict, IsVerified}
 use Rattle.command_tasks.specs.declared.statuses.Status.{Status}
 use Rattle.command_tasks.specs.declared.statuses.Status.TheVariants.{Done, Rejected}
 use Rattle.task_answers.specs.declared.replies.Reply.{Reply}
-use Rattle.task_answers.specs.Answers.{Answer}
+use Rattle.task_answers.specs.Replies.{Answer}
 
 -- done where the certificate is verified
 abbrev pub verdict_status : CertVerdict → Status

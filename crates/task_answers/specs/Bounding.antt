@@ -14,9 +14,9 @@ use Rattle.every_secret.specs.Rules.{Rules, rules_of}
 use Rattle.lockstep_replay.specs.Tasks.{Limits}
 use Rattle.command_tasks.specs.declared.statuses.Status.TheVariants.{Done, Rejected}
 use Rattle.command_tasks.specs.Tasks.{AllSecretsTask}
-use Rattle.task_answers.specs.Answers.{Answer}
+use Rattle.task_answers.specs.Replies.{Answer}
 use Rattle.task_answers.specs.Checks.{judged_by}
-use Rattle.task_answers.specs.BoundTexts.{bounded_line, listing, public_text, too_many_line, unclear_line}
+use Rattle.task_answers.specs.BoundLines.{bounded_line, listing, public_text, too_many_line, unclear_line}
 
 -- the mask rules of tables 1 and 2, and for every other number those of table 3, where so much is known of the public
 -- input

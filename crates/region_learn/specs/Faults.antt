@@ -2,7 +2,7 @@
 use Rattle.std.specs.Prelude.{ℕ, List, ◌++◌, codes}
 use Rattle.std.specs.Fmt.{decimal}
 use Rattle.flow_base.specs.HexWords.{hex_word}
-use Rattle.rv32im_machine.specs.FaultTexts.{stop_text}
+use Rattle.rv32im_machine.specs.Stepping.{stop_text}
 use Rattle.region_learn.specs.declared.faults.LearnFault.{LearnFault}
 use Rattle.region_learn.specs.declared.faults.LearnFault.TheVariants.{Guest, Call, TurnLimit, Ranges, Bytes, TextSize}
 use Rattle.region_learn.specs.declared.faults.LearnFault.TheVariants.{Memory}

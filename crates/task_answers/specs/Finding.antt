@@ -5,7 +5,7 @@ use Rattle.taint_check.specs.Laws.{IsAcceptedIfClean}
 use Rattle.taint_check.specs.Tainted.{Finding, IsVerdict}
 use Rattle.command_tasks.specs.declared.statuses.Status.TheVariants.{Done, Rejected}
 use Rattle.task_answers.specs.declared.replies.Reply.{Reply}
-use Rattle.task_answers.specs.Answers.{Answer}
+use Rattle.task_answers.specs.Replies.{Answer}
 use Rattle.task_answers.specs.Texts.{findings_text, clean_count}
 
 -- what is found of a secret by the mask rules of a table; where it is clean, the secret is accepted

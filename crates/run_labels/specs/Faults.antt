@@ -3,7 +3,7 @@ use Rattle.std.specs.Prelude.{ℕ, List, ◌++◌, codes}
 use Rattle.std.specs.Fmt.{decimal}
 use Rattle.flow_base.specs.HexWords.{hex_word}
 use Rattle.enclosure_regions.specs.Texts.{break_text}
-use Rattle.rv32im_machine.specs.FaultTexts.{stop_text}
+use Rattle.rv32im_machine.specs.Stepping.{stop_text}
 use Rattle.run_labels.specs.declared.faults.MeasureFault.{MeasureFault}
 use Rattle.run_labels.specs.declared.faults.MeasureFault.TheVariants.{Guest, Region, TurnLimit, SecretCode, BaseSecret}
 use Rattle.run_labels.specs.declared.faults.MeasureFault.TheVariants.{GraphLimit, Memory}

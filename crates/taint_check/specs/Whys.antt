@@ -5,7 +5,7 @@ use Rattle.std.specs.Fmt.{decimal}
 use Rattle.flow_base.specs.HexWords.{hex_word}
 use Rattle.flow_base.specs.Points.{point_text}
 use Rattle.enclosure_regions.specs.Texts.{break_text}
-use Rattle.rv32im_machine.specs.FaultTexts.{stop_text}
+use Rattle.rv32im_machine.specs.Stepping.{stop_text}
 use Rattle.taint_check.specs.declared.whys.TaintWhy.{TaintWhy}
 use Rattle.taint_check.specs.declared.whys.TaintWhy.TheVariants.{RealFault, RegionBreak, BudgetOverrun, Left}
 use Rattle.taint_check.specs.declared.whys.TaintWhy.TheVariants.{SecretCode, BaseSecret, TurnLimit, SecretLength}

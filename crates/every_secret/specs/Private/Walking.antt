@@ -5,7 +5,7 @@ use Rattle.flow_base.specs.declared.points.Point.{Point}
 use Rattle.rv32im_machine.specs.Language.{Ended}
 use Rattle.rv32im_machine.specs.Playing.{Finished}
 use Rattle.rv32im_machine.specs.State.{State}
-use Rattle.crossing_bits.specs.Streams.{Stream}
+use Rattle.crossing_bits.specs.Strings.{Stream}
 use Rattle.replay_machine.specs.Visits.{IsAhead}
 use Rattle.run_labels.specs.TurnLabels.{TurnLabels}
 use Rattle.tracked_run.specs.Labels.{map_of}
