@@ -23,8 +23,9 @@ sys.path[:0] = [os.path.join(HERE, name) for name in ("sweep", "explain", "model
 
 from bars import picture
 from batch import caller, put, read
-from bounds_merge import MergedBounds, write_bounds
+from bounds_merge import MergedBounds
 from bounds_merge import report_of as bounds_report
+from bounds_merge import write_bounds
 from built_program import program_words
 from cuts import read_cut, read_regions
 from elf_symbols import ProgramFile

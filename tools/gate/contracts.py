@@ -74,6 +74,12 @@ def contracts(revision):
     return found
 
 
+def title(key):
+    """The crate, the type if there is one, and the name of a function."""
+    crate, owner, name = key
+    return f"{crate}: {owner + ' ' if owner else ''}{name}"
+
+
 def main():
     """Prints the contracts, or what differs."""
     parser = argparse.ArgumentParser(description=__doc__)
@@ -81,7 +87,6 @@ def main():
     parser.add_argument("--against")
     words = parser.parse_args()
     now = contracts(words.revision)
-    title = lambda key: f"{key[0]}: {key[1] + ' ' if key[1] else ''}{key[2]}"
     if words.against is None:
         for key in sorted(now):
             print(title(key))

@@ -4,8 +4,23 @@ In a fork register 5 is 0 or 1, and register 6 is for use. Most forks go wrong f
 the zeros of the replay one is stopped, or goes elsewhere."""
 from instructions import ALL
 from pieces import BRANCH_FORMS, BREAK, DATA, LOAD_FORMS, NUMBER, READ, STORE_FORMS, WRITE, Pieces
-from words import ADD, AND, AUIPC, EBREAK, ECALL, JALR, LOAD, MULTIPLY, XOR, branch_word, immediate_word, jump_word
-from words import register_word, store_word, upper_word
+from words import (
+    ADD,
+    AND,
+    AUIPC,
+    EBREAK,
+    ECALL,
+    JALR,
+    LOAD,
+    MULTIPLY,
+    XOR,
+    branch_word,
+    immediate_word,
+    jump_word,
+    register_word,
+    store_word,
+    upper_word,
+)
 
 BIT, SPARE, ROUNDS = 5, 6, 27
 OPCODES = (0x13, 0x33, 0x67, 0x37, 0x6F, 0x73, 0x63, 0x03, 0x23, 0x0F, 0x17, 0x93, 0xB3, 0x83, 0)

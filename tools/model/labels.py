@@ -1,8 +1,9 @@
 """The labels of registers and bytes during a real run: which of their bits may depend on the secret, and the point that
 produced them. They follow each turn once it is made, from the values that it passed."""
 from cuts import slot_width
-from guest import BREAK, EXIT, EXIT_GROUP, READ, WRITE
+from guest import BREAK, EXIT, EXIT_GROUP, READ
 from guest import SECRET as SECRET_INPUT
+from guest import WRITE
 from instructions import ALL, WIDTHS
 from passings import CLEAN, IMPLICIT, OUT, SECRET
 from rules import loaded_mask, result_mask

@@ -1,7 +1,19 @@
 """Pieces of random programs. Register 8 holds the address of the data, where the inputs are read to."""
 from instructions import ALL
-from words import ADD, AUIPC, ECALL, JALR, LOAD, LUI, Writer, immediate_word, jump_word, register_word, store_word
-from words import upper_word
+from words import (
+    ADD,
+    AUIPC,
+    ECALL,
+    JALR,
+    LOAD,
+    LUI,
+    Writer,
+    immediate_word,
+    jump_word,
+    register_word,
+    store_word,
+    upper_word,
+)
 
 OPERATIONS = [(0, minor) for minor in range(8)] + [(0x20, 0), (0x20, 5)] + [(1, minor) for minor in range(8)]
 LOAD_FORMS, STORE_FORMS, BRANCH_FORMS = (0, 1, 2, 4, 5), (0, 1, 2), (0, 1, 4, 5, 6, 7)

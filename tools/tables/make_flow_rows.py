@@ -21,7 +21,6 @@ from pathlib import Path
 
 import networkx
 from networkx.algorithms.flow import edmonds_karp, shortest_augmenting_path
-
 from put_rows import put
 
 SOURCE, SINK = "s", "t"
