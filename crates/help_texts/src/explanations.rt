@@ -1,5 +1,8 @@
 //! What an answer means that is not the plain one, and what to change.
 
+ghost use Rattle.std.specs.Prelude.{◌≡◌, ◌<◌, ◌⊎◌, is_some, true, None, IfOk, IfSome, string_bytes};
+ghost use Rattle.help_texts.specs.Texts.{IsComplaint};
+
 use crate::complaints::complaint;
 use crate::findings::add_findings;
 use crate::naming::{named, options_last};
@@ -102,7 +105,11 @@ pub fn explanation(
     status: u8,
     words: &[String],
     text: &[u8],
-) -> Result<Option<String>, AllocError> {
+) -> Result<Option<String>, AllocError>
+    ensures said { (status ≡ 2) ⊎ ((status ≡ 7) ⊎ (status ≡ 8)) → IfOk result (λ told. is_some told ≡ true) }
+    ensures complaint { status ≡ 2 → IfOk result (λ told. IfSome told (λ words. IsComplaint (string_bytes words))) }
+    ensures none { 8 < status → IfOk result (λ told. told ≡ None) }
+{
     match status {
         2 => Ok(Some(complaint(alloc, words)?)),
         0 | 1 | 3 | 4 | 5 | 6 => of_command_line(alloc, status, words, text_of(text)),
