@@ -16,9 +16,6 @@ raising_first net flow places value at d most = record {
   ahead = λ i tail head. most i;
 }
 
-pub raised_most : (flow : List ℕ) (value total : ℕ) → total ≡ value → AreAtMost value flow → AreAtMost total flow
-raised_most flow value total same most = λ i. let m : slice_index flow i ≤ value = most i in omega (arith, m, same)
-
 pushed_most : (net : Net) (flow : List ℕ) (e v d : ℕ) → pushed net flow e v d ≤ slice_index flow e + d
 pushed_most net flow e v d =
     ⊎_elim

@@ -1,6 +1,6 @@
 -- The rounds of the solver: no flow at all at first, and at last a flow and a set that nothing more leaves.
-use Rattle.std.proofs.Common.{◌≡◌, ℕ, ◌-◌, ◌^◌, ◌≤◌, ◌<◌, cond, eqb, true, false, List}
-use Rattle.std.proofs.Common.{length, slice_index, refl, sym, ◌∙◌, ⊎_elim, arith}
+use Rattle.std.proofs.Common.{◌≡◌, ℕ, ◌+◌, ◌-◌, ◌^◌, ◌≤◌, ◌<◌, cond, eqb, true, false, List}
+use Rattle.std.proofs.Common.{length, slice_index, refl, sym, ap, ◌∙◌, subst, ⊎_elim, arith}
 use Rattle.std.proofs.lemmas.Bool.{cases_Bool, ltb-true, lt-ltb, le-ltb}
 use Rattle.max_flow.specs.Private.Networks.{Net, at_node, IsNet, IsFlow, IsSide, source_flow, capacity_of}
 use Rattle.max_flow.specs.Flows.{AreAtMost}
@@ -109,3 +109,14 @@ none_of_value net flow zeros = record {
   value_is = none_value net flow zeros;
   most = none_most (length net.tails) flow zeros;
 }
+
+-- a flow is one of its own value
+pub own_value : (net : Net) (flow : List ℕ) (value : ℕ) → IsFlowOfValue net flow value → IsFlowOfValue net flow
+    (source_flow net flow)
+own_value net flow value is = subst (IsFlowOfValue net flow) (sym is.value_is) is
+
+-- the value of a flow to which more is added
+pub value_on : (net : Net) (flow later : List ℕ) (value more total : ℕ) → IsFlowOfValue net flow value → IsFlowOfValue
+    net later (source_flow net flow + more) → total ≡ value + more → IsFlowOfValue net later total
+value_on net flow later value more total is then sum =
+    subst (IsFlowOfValue net later) (ap (λ v. v + more) is.value_is ∙ sym sum) then

@@ -1,6 +1,6 @@
 ghost use Rattle.std.specs.Prelude.{◌≡◌, ◌+◌, ◌<◌, ◌≤◌, length, slice_index, slice_set};
-ghost use Rattle.max_flow.specs.Flows.{AreAtMost};
-ghost use Rattle.max_flow.specs.Private.Networks.{IsFlow, source_flow};
+ghost use Rattle.max_flow.specs.Private.Balances.{IsFlowOfValue};
+ghost use Rattle.max_flow.specs.Private.Networks.{source_flow};
 ghost use Rattle.max_flow.specs.Private.Rooms.{IsBounded, bound, other_end, pushed, room_into};
 ghost use Rattle.max_flow.specs.Private.Solving.{net_of, IsNetwork, IsTree};
 
@@ -28,16 +28,11 @@ fn push(network: &Network, flows: &mut [u64], at: usize, edge: usize, amount: u6
 /// Brings as much more to the sink as fits through the walk over which it was found. Gives how much that is.
 pub fn augment(network: &Network, flows: &mut [u64], tree: &Tree) -> u64
     requires network { IsNetwork network.now }
-    requires flow { IsFlow (net_of network.now) flows.old }
-    requires bounded { IsBounded (net_of network.now) flows.old }
+    requires flow { IsFlowOfValue (net_of network.now) flows.old (source_flow (net_of network.now) flows.old) }
     requires tree { IsTree (net_of network.now) flows.old tree.now }
     requires found { 0 < slice_index tree.now.places.items 1 }
-    requires most { AreAtMost (source_flow (net_of network.now) flows.old) flows.old }
-    ensures flow { IsFlow (net_of network.now) flows.new }
-    ensures bounded { IsBounded (net_of network.now) flows.new }
-    ensures value { source_flow (net_of network.now) flows.new ≡ source_flow (net_of network.now) flows.old + result }
+    ensures flow { IsFlowOfValue (net_of network.now) flows.new (source_flow (net_of network.now) flows.old + result) }
     ensures some { 0 < result }
-    ensures most { AreAtMost (source_flow (net_of network.now) flows.new) flows.new }
 {
     let amount = tree.room(1);
     let mut at = 1;

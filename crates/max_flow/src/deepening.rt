@@ -1,164 +1,164 @@
-ghost use Rattle.std.specs.Prelude.{◌≡◌, ◌+◌, ◌-◌, ◌<◌, ◌≤◌, length, slice_index, false, IfOk, OnOk};
-ghost use Rattle.max_flow.specs.Flows.{AreAtMost};
-ghost use Rattle.max_flow.specs.Private.Networks.{IsFlow, source_flow};
-ghost use Rattle.max_flow.specs.Private.Rooms.{HasSmallSide, IsBounded};
+ghost use Rattle.std.specs.Prelude.{◌≡◌, ◌+◌, ◌-◌, ◌<◌, length, slice_index, false, IfOk, OnOk};
+ghost use Rattle.max_flow.specs.Private.Balances.{IsFlowOfValue};
+ghost use Rattle.max_flow.specs.Private.Deepening.{HasCurrentArcs, IsStack, IsWalk, IsWalkTo};
+ghost use Rattle.max_flow.specs.Private.Networks.{source_flow};
+ghost use Rattle.max_flow.specs.Private.Rooms.{HasSmallSide};
 ghost use Rattle.max_flow.specs.Private.Searching.{IsStart};
 ghost use Rattle.max_flow.specs.Private.Solving.{net_of, IsNetwork, IsRoomy, IsTree};
-ghost use Rattle.max_flow.specs.Private.Deepening.{AreCursors, IsStack};
 
 use crate::augmenting::augment;
 use crate::networks::Network;
-use crate::searching::{Tree, reach};
+use crate::searching::{ResidualArc, Tree, reach};
 use flow_base::NoMemory;
 use std::alloc::Global;
 
-/// Whether a walk may go on from a node to another: one that a search found later, or the sink.
-fn is_deeper(levels: &[u32], at: usize, to: usize) -> bool {
-    to == 1 || at < levels.len() && to < levels.len() && levels[at] < levels[to]
+/// The level graph of a search, in which walks lead from lower levels to higher ones, and the current arcs at each node:
+/// those to be tried next.
+#[derive(Drop)]
+pub struct LevelGraph {
+    /// For each node its level, which is its place in the search; 0 where it was not found.
+    levels: Vec<u32>,
+    /// For each node its current arc forward: an edge that leaves it, counted from 1, or 0.
+    leaving: Vec<u32>,
+    /// For each node its current arc back: an edge that enters it, counted from 1, or 0.
+    entering: Vec<u32>,
 }
 
-/// Whether any edge is still to be tried at a node.
-fn is_open(leaving: &[u32], entering: &[u32], node: usize) -> bool {
-    node < leaving.len() && leaving[node] != 0 || node < entering.len() && entering[node] != 0
-}
+impl LevelGraph {
+    /// The level graph of a search. All arcs are still to be tried.
+    fn new(alloc: Global, network: &Network, tree: &Tree) -> Result<LevelGraph, NoMemory>
+        requires { IsNetwork network.now }
+        ensures { IfOk result (λ graph. HasCurrentArcs network.now graph) }
+    {
+        let levels = tree.places.as_slice().to_vec(alloc)?;
+        let leaving = network.leaving.first.as_slice().to_vec(alloc)?;
+        let entering = network.entering.first.as_slice().to_vec(alloc)?;
+        Ok(LevelGraph {
+            levels,
+            leaving,
+            entering,
+        })
+    }
 
-/// The next edge that leaves a node and on which a walk may go on, counted from 1, or 0. What is passed over is not
-/// tried again.
-fn next_leaving(
-    network: &Network,
-    flows: &[u64],
-    tree: &Tree,
-    leaving: &mut [u32],
-    entering: &[u32],
-    levels: &[u32],
-    at: usize,
-) -> u32
-    requires network { IsNetwork network.now }
-    requires flows { length flows.now ≡ length network.now.tails.items }
-    requires places { length tree.now.places.items ≡ network.now.nodes }
-    requires inside { at < network.now.nodes }
-    requires cursors { AreCursors network.now.tails.items network.now.nodes leaving.old }
-    ensures cursors { AreCursors network.now.tails.items network.now.nodes leaving.new }
-    ensures cursor { result ≡ slice_index leaving.new at }
-{
-    while leaving[at] != 0 {
-        let edge = (leaving[at] - 1) as usize;
-        let to = network.head(edge);
-        if flows[edge] < network.limit(edge)
-            && tree.place(to) == 0
-            && is_deeper(levels, at, to)
-            && is_open(leaving, entering, to)
-        {
-            return leaving[at];
+    /// Whether a walk may go on from a node to another: one of a higher level, or the sink.
+    fn is_deeper(&self, at: usize, to: usize) -> bool {
+        to == 1
+            || at < self.levels.len() && to < self.levels.len() && self.levels[at] < self.levels[to]
+    }
+
+    /// Whether any arc is still to be tried at a node.
+    fn is_open(&self, node: usize) -> bool {
+        node < self.leaving.len() && self.leaving[node] != 0
+            || node < self.entering.len() && self.entering[node] != 0
+    }
+
+    /// The next edge that leaves a node and on which a walk may go on, counted from 1, or 0. What is passed over is not
+    /// tried again.
+    fn next_leaving(&mut self, network: &Network, flows: &[u64], tree: &Tree, at: usize) -> u32
+        requires network { IsNetwork network.now }
+        requires walk { IsWalkTo (net_of network.now) flows.now tree.now at }
+        requires current { HasCurrentArcs network.now self.old }
+        ensures current { HasCurrentArcs network.now self.new }
+        ensures arc { result ≡ slice_index self.new.leaving.items at }
+    {
+        while self.leaving[at] != 0 {
+            let edge = (self.leaving[at] - 1) as usize;
+            let to = network.head(edge);
+            if flows[edge] < network.limit(edge)
+                && tree.place(to) == 0
+                && self.is_deeper(at, to)
+                && self.is_open(to)
+            {
+                return self.leaving[at];
+            }
+            self.leaving[at] = network.leaving.before(edge);
         }
-        leaving[at] = network.leaving.before(edge);
+        0
     }
-    0
-}
 
-/// The next edge that enters a node and over which a walk may go back, counted from 1, or 0. What is passed over is not
-/// tried again.
-fn next_entering(
-    network: &Network,
-    flows: &[u64],
-    tree: &Tree,
-    leaving: &[u32],
-    entering: &mut [u32],
-    levels: &[u32],
-    at: usize,
-) -> u32
-    requires network { IsNetwork network.now }
-    requires flows { length flows.now ≡ length network.now.tails.items }
-    requires places { length tree.now.places.items ≡ network.now.nodes }
-    requires inside { at < network.now.nodes }
-    requires cursors { AreCursors network.now.heads.items network.now.nodes entering.old }
-    ensures cursors { AreCursors network.now.heads.items network.now.nodes entering.new }
-    ensures cursor { result ≡ slice_index entering.new at }
-{
-    while entering[at] != 0 {
-        let edge = (entering[at] - 1) as usize;
-        let to = network.tail(edge);
-        if flows[edge] != 0
-            && tree.place(to) == 0
-            && is_deeper(levels, at, to)
-            && is_open(leaving, entering, to)
-        {
-            return entering[at];
+    /// The next edge that enters a node and over which a walk may go back, counted from 1, or 0. What is passed over is
+    /// not tried again.
+    fn next_entering(&mut self, network: &Network, flows: &[u64], tree: &Tree, at: usize) -> u32
+        requires network { IsNetwork network.now }
+        requires walk { IsWalkTo (net_of network.now) flows.now tree.now at }
+        requires current { HasCurrentArcs network.now self.old }
+        ensures current { HasCurrentArcs network.now self.new }
+        ensures arc { result ≡ slice_index self.new.entering.items at }
+    {
+        while self.entering[at] != 0 {
+            let edge = (self.entering[at] - 1) as usize;
+            let to = network.tail(edge);
+            if flows[edge] != 0
+                && tree.place(to) == 0
+                && self.is_deeper(at, to)
+                && self.is_open(to)
+            {
+                return self.entering[at];
+            }
+            self.entering[at] = network.entering.before(edge);
         }
-        entering[at] = network.entering.before(edge);
+        0
     }
-    0
-}
 
-/// Lets a walk go on over an edge that leaves its last node. Gives whether there was one.
-fn go_on(
-    network: &Network,
-    flows: &[u64],
-    tree: &mut Tree,
-    leaving: &mut [u32],
-    entering: &[u32],
-    levels: &[u32],
-    at: usize,
-) -> Result<bool, NoMemory>
-    requires network { IsNetwork network.now }
-    requires flows { length flows.now ≡ length network.now.tails.items }
-    requires tree { IsTree (net_of network.now) flows.now tree.old }
-    requires root { slice_index tree.old.places.items 0 ≡ 1 }
-    requires inside { at < network.now.nodes }
-    requires found { 0 < slice_index tree.old.places.items at }
-    requires cursors { AreCursors network.now.tails.items network.now.nodes leaving.old }
-    ensures cursors { AreCursors network.now.tails.items network.now.nodes leaving.new }
-    ensures tree { OnOk result (IsTree (net_of network.now) flows.now tree.new) }
-    ensures root { OnOk result (slice_index tree.new.places.items 0 ≡ 1) }
-    ensures stays { result ≡ Ok false → tree.new ≡ tree.old }
-{
-    let cursor = next_leaving(network, flows, tree, leaving, entering, levels, at);
-    if cursor == 0 {
-        return Ok(false);
+    /// Lets a walk advance over an edge that leaves its last node. Gives whether there was one.
+    fn advance_leaving(
+        &mut self,
+        network: &Network,
+        flows: &[u64],
+        tree: &mut Tree,
+        at: usize,
+    ) -> Result<bool, NoMemory>
+        requires network { IsNetwork network.now }
+        requires walk { IsWalkTo (net_of network.now) flows.now tree.old at }
+        requires current { HasCurrentArcs network.now self.old }
+        ensures current { HasCurrentArcs network.now self.new }
+        ensures walk { OnOk result (IsWalk (net_of network.now) flows.now tree.new) }
+        ensures stays { result ≡ Ok false → tree.new ≡ tree.old }
+    {
+        let cursor = self.next_leaving(network, flows, tree, at);
+        if cursor == 0 {
+            return Ok(false);
+        }
+        let edge = (cursor - 1) as usize;
+        let arc = ResidualArc {
+            from: at,
+            edge,
+            to: network.head(edge),
+            room: network.limit(edge).saturating_sub(flows[edge]),
+        };
+        reach(network, flows, tree, arc)?;
+        Ok(true)
     }
-    let edge = (cursor - 1) as usize;
-    let room = network.limit(edge).saturating_sub(flows[edge]);
-    reach(network, flows, tree, at, edge, network.head(edge), room)?;
-    Ok(true)
-}
 
-/// Lets a walk go back over an edge that enters its last node. Gives whether there was one.
-fn go_back(
-    network: &Network,
-    flows: &[u64],
-    tree: &mut Tree,
-    leaving: &[u32],
-    entering: &mut [u32],
-    levels: &[u32],
-    at: usize,
-) -> Result<bool, NoMemory>
-    requires network { IsNetwork network.now }
-    requires flows { length flows.now ≡ length network.now.tails.items }
-    requires tree { IsTree (net_of network.now) flows.now tree.old }
-    requires root { slice_index tree.old.places.items 0 ≡ 1 }
-    requires inside { at < network.now.nodes }
-    requires found { 0 < slice_index tree.old.places.items at }
-    requires cursors { AreCursors network.now.heads.items network.now.nodes entering.old }
-    ensures cursors { AreCursors network.now.heads.items network.now.nodes entering.new }
-    ensures tree { OnOk result (IsTree (net_of network.now) flows.now tree.new) }
-    ensures root { OnOk result (slice_index tree.new.places.items 0 ≡ 1) }
-    ensures stays { result ≡ Ok false → tree.new ≡ tree.old }
-{
-    let cursor = next_entering(network, flows, tree, leaving, entering, levels, at);
-    if cursor == 0 {
-        return Ok(false);
+    /// Lets a walk advance back over an edge that enters its last node. Gives whether there was one.
+    fn advance_entering(
+        &mut self,
+        network: &Network,
+        flows: &[u64],
+        tree: &mut Tree,
+        at: usize,
+    ) -> Result<bool, NoMemory>
+        requires network { IsNetwork network.now }
+        requires walk { IsWalkTo (net_of network.now) flows.now tree.old at }
+        requires current { HasCurrentArcs network.now self.old }
+        ensures current { HasCurrentArcs network.now self.new }
+        ensures walk { OnOk result (IsWalk (net_of network.now) flows.now tree.new) }
+        ensures stays { result ≡ Ok false → tree.new ≡ tree.old }
+    {
+        let cursor = self.next_entering(network, flows, tree, at);
+        if cursor == 0 {
+            return Ok(false);
+        }
+        let edge = (cursor - 1) as usize;
+        let arc = ResidualArc {
+            from: at,
+            edge,
+            to: network.tail(edge),
+            room: flows[edge],
+        };
+        reach(network, flows, tree, arc)?;
+        Ok(true)
     }
-    let edge = (cursor - 1) as usize;
-    reach(
-        network,
-        flows,
-        tree,
-        at,
-        edge,
-        network.tail(edge),
-        flows[edge],
-    )?;
-    Ok(true)
 }
 
 /// Takes the nodes of a walk out again, but the source.
@@ -176,43 +176,31 @@ fn restart(tree: &mut Tree, nodes: usize)
 /// Takes the last node of a walk out again, which is not the source.
 fn retreat(network: &Network, flows: &[u64], tree: &mut Tree, at: usize)
     requires network { IsNetwork network.now }
-    requires tree { IsTree (net_of network.now) flows.now tree.old }
-    requires root { slice_index tree.old.places.items 0 ≡ 1 }
+    requires walk { IsWalk (net_of network.now) flows.now tree.old }
     requires last { slice_index tree.old.queue.items (length tree.old.queue.items - 1) ≡ at }
     requires some { 0 < at }
-    ensures tree { IsTree (net_of network.now) flows.now tree.new }
-    ensures root { slice_index tree.new.places.items 0 ≡ 1 }
+    ensures { IsWalk (net_of network.now) flows.now tree.new }
 {
     let _nodes = network.nodes();
     let _edges = flows.len();
     tree.pop();
 }
 
-/// Adds walks along which each node is deeper than the one before, until no more is found, or so many steps are taken.
-/// Gives what they add.
+/// Adds walks in a level graph, until no more is found, or so many steps are taken. Gives what they add.
 fn add_walks(
     network: &Network,
     flows: &mut [u64],
     tree: &mut Tree,
-    leaving: &mut [u32],
-    entering: &mut [u32],
-    levels: &[u32],
+    graph: &mut LevelGraph,
     steps: u64,
 ) -> Result<u64, NoMemory>
     requires network { IsNetwork network.now }
     requires small { HasSmallSide (net_of network.now) }
-    requires flow { IsFlow (net_of network.now) flows.old }
-    requires bounded { IsBounded (net_of network.now) flows.old }
-    requires tree { IsTree (net_of network.now) flows.old tree.old }
-    requires root { slice_index tree.old.places.items 0 ≡ 1 }
-    requires leaving { AreCursors network.now.tails.items network.now.nodes leaving.old }
-    requires entering { AreCursors network.now.heads.items network.now.nodes entering.old }
-    requires most { AreAtMost (source_flow (net_of network.now) flows.old) flows.old }
-    ensures flow { OnOk result (IsFlow (net_of network.now) flows.new) }
-    ensures bounded { OnOk result (IsBounded (net_of network.now) flows.new) }
-    ensures value { IfOk result (λ total. source_flow (net_of network.now) flows.new ≡ source_flow (net_of network.now)
-        flows.old + total) }
-    ensures most { OnOk result (AreAtMost (source_flow (net_of network.now) flows.new) flows.new) }
+    requires flow { IsFlowOfValue (net_of network.now) flows.old (source_flow (net_of network.now) flows.old) }
+    requires walk { IsWalk (net_of network.now) flows.old tree.old }
+    requires current { HasCurrentArcs network.now graph.old }
+    ensures flow { IfOk result (λ total. IsFlowOfValue (net_of network.now) flows.new
+        (source_flow (net_of network.now) flows.old + total)) }
     ensures room { OnOk result (IsRoomy network.now.nodes tree.new) }
 {
     let mut total = 0;
@@ -223,10 +211,10 @@ fn add_walks(
             restart(tree, network.nodes());
             continue;
         }
-        if go_on(network, flows, tree, leaving, entering, levels, at)? {
+        if graph.advance_leaving(network, flows, tree, at)? {
             continue;
         }
-        if go_back(network, flows, tree, leaving, entering, levels, at)? {
+        if graph.advance_entering(network, flows, tree, at)? {
             continue;
         }
         if at == 0 {
@@ -237,8 +225,8 @@ fn add_walks(
     Ok(total)
 }
 
-/// Adds the walk by which a search found the sink, and then walks over the nodes that it has placed, each deeper than the
-/// one before, until no more is found, or so many steps are taken. Gives what they add to the value, at least 1.
+/// Adds the walk by which a search found the sink, and then walks in the search's level graph, until no more is found, or
+/// so many steps are taken. Gives what they add to the value, at least 1.
 pub fn deepen(
     alloc: Global,
     network: &Network,
@@ -248,32 +236,17 @@ pub fn deepen(
 ) -> Result<u64, NoMemory>
     requires network { IsNetwork network.now }
     requires small { HasSmallSide (net_of network.now) }
-    requires flow { IsFlow (net_of network.now) flows.old }
-    requires bounded { IsBounded (net_of network.now) flows.old }
+    requires flow { IsFlowOfValue (net_of network.now) flows.old (source_flow (net_of network.now) flows.old) }
     requires tree { IsTree (net_of network.now) flows.old tree.old }
     requires found { 0 < slice_index tree.old.places.items 1 }
-    requires most { AreAtMost (source_flow (net_of network.now) flows.old) flows.old }
-    ensures flow { OnOk result (IsFlow (net_of network.now) flows.new) }
-    ensures bounded { OnOk result (IsBounded (net_of network.now) flows.new) }
-    ensures value { IfOk result (λ total. source_flow (net_of network.now) flows.new ≡ source_flow (net_of network.now)
-        flows.old + total) }
+    ensures flow { IfOk result (λ total. IsFlowOfValue (net_of network.now) flows.new
+        (source_flow (net_of network.now) flows.old + total)) }
     ensures some { IfOk result (λ total. 0 < total) }
-    ensures most { OnOk result (AreAtMost (source_flow (net_of network.now) flows.new) flows.new) }
     ensures room { OnOk result (IsRoomy network.now.nodes tree.new) }
 {
     let first = augment(network, flows, tree);
-    let levels = tree.places.as_slice().to_vec(alloc)?;
-    let mut leaving = network.leaving.first.as_slice().to_vec(alloc)?;
-    let mut entering = network.entering.first.as_slice().to_vec(alloc)?;
+    let mut graph = LevelGraph::new(alloc, network, tree)?;
     tree.begin(network.nodes())?;
-    let more = add_walks(
-        network,
-        flows,
-        tree,
-        &mut leaving,
-        &mut entering,
-        &levels,
-        steps,
-    )?;
+    let more = add_walks(network, flows, tree, &mut graph, steps)?;
     Ok(first + more)
 }

@@ -4,7 +4,7 @@ ghost use Rattle.max_flow.specs.Private.Searching.{HasGrown, HasLeft, HasEntered
 ghost use Rattle.max_flow.specs.Private.Solving.{net_of, IsNetwork, IsTree};
 
 use crate::networks::Network;
-use crate::searching::{Tree, reach};
+use crate::searching::{ResidualArc, Tree, reach};
 use flow_base::NoMemory;
 
 /// Finds what is reached over the edges that leave a found node.
@@ -27,8 +27,13 @@ fn scan_leaving(
     let mut cursor = network.leaving.last_at(at);
     while cursor != 0 {
         let edge = (cursor - 1) as usize;
-        let room = network.limit(edge).saturating_sub(flows[edge]);
-        reach(network, flows, tree, at, edge, network.head(edge), room)?;
+        let arc = ResidualArc {
+            from: at,
+            edge,
+            to: network.head(edge),
+            room: network.limit(edge).saturating_sub(flows[edge]),
+        };
+        reach(network, flows, tree, arc)?;
         cursor = network.leaving.before(edge);
     }
     Ok(())
@@ -54,15 +59,13 @@ fn scan_entering(
     let mut cursor = network.entering.last_at(at);
     while cursor != 0 {
         let edge = (cursor - 1) as usize;
-        reach(
-            network,
-            flows,
-            tree,
-            at,
+        let arc = ResidualArc {
+            from: at,
             edge,
-            network.tail(edge),
-            flows[edge],
-        )?;
+            to: network.tail(edge),
+            room: flows[edge],
+        };
+        reach(network, flows, tree, arc)?;
         cursor = network.entering.before(edge);
     }
     Ok(())

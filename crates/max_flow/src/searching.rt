@@ -2,7 +2,7 @@ ghost use Rattle.std.specs.Prelude.{◌≡◌, ◌+◌, ◌-◌, ◌^◌, ◌<�
 ghost use Rattle.std.specs.Prelude.{OnOk};
 ghost use Rattle.max_flow.specs.Private.Networks.{IsFlow};
 ghost use Rattle.max_flow.specs.Private.Rooms.{IsClosed};
-ghost use Rattle.max_flow.specs.Private.Searching.{Reaches, HasGrown, is_found, IsStart};
+ghost use Rattle.max_flow.specs.Private.Searching.{HasGrown, IsArc, is_found, IsStart};
 ghost use Rattle.max_flow.specs.Private.Solving.{net_of, IsNetwork, IsRoomy, IsTree};
 
 use crate::networks::Network;
@@ -18,6 +18,16 @@ pub struct Tree {
     pub arrivals: Vec<u32>,
     pub rooms: Vec<u64>,
     pub queue: Vec<u32>,
+}
+
+/// An arc of the residual network: an edge over which more can be brought from one node to another, along it or back
+/// over it, and how much more.
+#[derive(Clone, Copy)]
+pub struct ResidualArc {
+    pub from: usize,
+    pub edge: usize,
+    pub to: usize,
+    pub room: u64,
 }
 
 impl Tree {
@@ -123,32 +133,26 @@ impl Tree {
     }
 }
 
-/// Finds a node from another one over an edge, where the edge has room and the node is not found yet.
+/// Finds a node over a residual arc, where the arc has room and the node is not found yet.
 pub fn reach(
     network: &Network,
     flows: &[u64],
     tree: &mut Tree,
-    source: usize,
-    edge: usize,
-    node: usize,
-    room: u64,
+    arc: ResidualArc,
 ) -> Result<(), NoMemory>
     requires network { IsNetwork network.now }
     requires tree { IsTree (net_of network.now) flows.now tree.old }
-    requires inside { node < network.now.nodes }
-    requires source { source < network.now.nodes }
-    requires reaches { slice_index tree.old.places.items node ≡ 0 → Reaches (net_of network.now) flows.now
-        tree.old.places.items source edge node room }
+    requires arc { IsArc (net_of network.now) flows.now tree.old.places.items arc }
     ensures tree { OnOk result (IsTree (net_of network.now) flows.now tree.new) }
     ensures grown { OnOk result (HasGrown tree.old.places.items (length tree.old.queue.items) tree.new.places.items
         (length tree.new.queue.items)) }
-    ensures found { OnOk result (0 < room → 0 < slice_index tree.new.places.items node) }
+    ensures found { OnOk result (0 < arc.room → 0 < slice_index tree.new.places.items arc.to) }
 {
-    if room == 0 || tree.place(node) != 0 {
+    if arc.room == 0 || tree.place(arc.to) != 0 {
         return Ok(());
     }
-    let narrow = room.min(tree.room(source));
-    tree.put(node, edge, narrow)?;
+    let narrow = arc.room.min(tree.room(arc.from));
+    tree.put(arc.to, arc.edge, narrow)?;
     Ok(())
 }
 

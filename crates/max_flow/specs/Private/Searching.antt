@@ -1,6 +1,7 @@
 -- A search from the source over edges with room: which nodes are found, in which order, and over which edges.
 use Rattle.std.specs.Prelude.{◌≡◌, ℕ, ◌+◌, ◌-◌, ◌≤◌, ◌<◌, ◌≢◌, ◌==◌, nat_lt, cond, Bool, true}
 use Rattle.std.specs.Prelude.{List, [], ◌∷◌, length, slice_index}
+use Rattle.max_flow.specs.declared.searching.ResidualArc.{ResidualArc}
 use Rattle.max_flow.specs.Private.Networks.{Net, at_node, sum_below}
 use Rattle.max_flow.specs.Flows.{AreAtMost}
 use Rattle.max_flow.specs.Private.Rooms.{bound, room_into, other_end, IsBounded, IsClosed}
@@ -102,6 +103,12 @@ pub record Reaches (net : Net) (flow places : List ℕ) (source edge node room :
   pub joins : slice_index net.heads edge ≢ node → slice_index net.tails edge ≡ node
   pub end : other_end net edge node ≡ source
   pub room_is : room ≡ room_into net flow edge node
+
+-- an arc over which its end is reached, where that is not found yet
+pub record IsArc (net : Net) (flow places : List ℕ) (arc : ResidualArc) : Type 0 where
+  pub from_inside : arc.from < net.nodes
+  pub to_inside : arc.to < net.nodes
+  pub reaches : slice_index places arc.to ≡ 0 → Reaches net flow places arc.from arc.edge arc.to arc.room
 
 -- the source alone is found
 pub record IsStart (nodes : ℕ) (places arrivals rooms queue : List ℕ) : Type 0 where

@@ -1,17 +1,17 @@
-use Rattle.std.proofs.Common.{◌≡◌, ◌≢◌, ◌+◌}
+use Rattle.std.proofs.Common.{◌≢◌}
 use Rattle.max_flow.specs.Private.Networks.{source_flow}
 use Rattle.max_flow.specs.Private.Solving.{net_of}
 use Rattle.max_flow.proofs.WalksBack.{walking_first, walking_on, walked_flow, walked_value}
-use Rattle.max_flow.proofs.Amounts.{raising_first, raising_on, raised_most}
+use Rattle.max_flow.proofs.Amounts.{raising_first, raising_on}
 use Rattle.max_flow.proofs.augmenting.augment.Goals as goal
 
 pub loop-at-init : goal.loop-at-init
 loop-at-init c = record {
   walking = rw c.room-amount.ensures (walking_first (net_of c.args.network.now) c.args.flows.now _ _ _
-      c.args.tree.now.queue.items c.requires.network.net c.requires.flow c.requires.bounded c.requires.tree
+      c.args.tree.now.queue.items c.requires.network.net c.requires.flow.flow_is c.requires.flow.bounded c.requires.tree
       c.requires.found);
   raising = raising_first (net_of c.args.network.now) c.args.flows.now c.args.tree.now.places.items
-      (source_flow (net_of c.args.network.now) c.args.flows.now) 1 c.room-amount.result c.requires.most;
+      (source_flow (net_of c.args.network.now) c.args.flows.now) 1 c.room-amount.result c.requires.flow.most;
 }
 
 pub loop-at-preserved : goal.loop-at-preserved
@@ -27,19 +27,11 @@ loop-at-preserved c =
     }
 
 pub returns-clause-flow : goal.returns-clause-flow
-returns-clause-flow c =
-    walked_flow (net_of c.args.network.now) c.loop-at.flows _ _ _ _ c.loop-at.at c.room-amount.result
-    c.requires.network.net c.loop-at-test.false c.loop-at.invariant.walking
-
-pub returns-clause-value : goal.returns-clause-value
-returns-clause-value c =
-    walked_value (net_of c.args.network.now) c.loop-at.flows _ _ _ _ c.loop-at.at c.room-amount.result
-    c.requires.network.net c.loop-at-test.false c.loop-at.invariant.walking
-
-pub returns-clause-most : goal.returns-clause-most
-returns-clause-most c =
-    let total : source_flow (net_of c.args.network.now) c.loop-at.flows ≡ source_flow (net_of c.args.network.now)
-    c.args.flows.now + c.room-amount.result =
-    walked_value (net_of c.args.network.now) c.loop-at.flows _ _ _ _ c.loop-at.at c.room-amount.result
-    c.requires.network.net c.loop-at-test.false c.loop-at.invariant.walking in
-    raised_most c.loop-at.flows _ _ total c.loop-at.invariant.raising.most
+returns-clause-flow c = record {
+  flow_is = walked_flow (net_of c.args.network.now) c.loop-at.flows _ _ _ _ c.loop-at.at c.room-amount.result
+      c.requires.network.net c.loop-at-test.false c.loop-at.invariant.walking;
+  bounded = c.loop-at.invariant.walking.bounded;
+  value_is = walked_value (net_of c.args.network.now) c.loop-at.flows _ _ _ _ c.loop-at.at c.room-amount.result
+      c.requires.network.net c.loop-at-test.false c.loop-at.invariant.walking;
+  most = c.loop-at.invariant.raising.most;
+}

@@ -4,16 +4,20 @@ use Rattle.max_flow.proofs.SearchSteps.{grown_on}
 use Rattle.max_flow.proofs.ScannedQueueIsClosed.{reaches_tail, entered_next}
 use Rattle.max_flow.proofs.scanning.scan_entering.Goals as goal
 
-pub reach-requires-clause-reaches : goal.reach-requires-clause-reaches
-reach-requires-clause-reaches c = λ none.
+pub reach-requires-clause-arc : goal.reach-requires-clause-arc
+reach-requires-clause-arc c =
     let some : 0 < c.loop-cursor.cursor = omega arith in
-    rw c.tail.ensures
-    (reaches_tail (net_of c.args.network.now) c.args.flows.now c.loop-cursor.tree.places.items c.args.at
-    (c.loop-cursor.cursor - 1) _
-    c.requires.network.net c.requires.inside (let k : slice_index c.loop-cursor.tree.places.items c.args.at ≡
-    slice_index c.args.tree.now.places.items c.args.at = c.loop-cursor.invariant.grown.kept c.args.at
-    c.requires.found in omega (arith, k, c.requires.found)) (omega arith) (c.loop-cursor.invariant.here some) refl
-    (sym (ap (slice_index c.loop-cursor.tree.places.items) c.tail.ensures) ∙ none))
+    record {
+      from_inside = c.requires.inside;
+      to_inside = rw c.tail.ensures (c.requires.network.net.tails_inside (c.loop-cursor.cursor - 1) (omega arith));
+      reaches = λ none. rw c.tail.ensures
+          (reaches_tail (net_of c.args.network.now) c.args.flows.now c.loop-cursor.tree.places.items c.args.at
+          (c.loop-cursor.cursor - 1) _
+          c.requires.network.net c.requires.inside (let k : slice_index c.loop-cursor.tree.places.items c.args.at ≡
+          slice_index c.args.tree.now.places.items c.args.at = c.loop-cursor.invariant.grown.kept c.args.at
+          c.requires.found in omega (arith, k, c.requires.found)) (omega arith) (c.loop-cursor.invariant.here some) refl
+          (sym (ap (slice_index c.loop-cursor.tree.places.items) c.tail.ensures) ∙ none));
+    }
 
 pub loop-cursor-preserved : goal.loop-cursor-preserved
 loop-cursor-preserved c =

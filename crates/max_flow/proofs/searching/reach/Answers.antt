@@ -14,15 +14,15 @@ returns-clause-tree c =
       c.min-narrow.ensures,
       c.room.ensures,
     )
-    (let none : slice_index c.args.tree.now.places.items c.args.node ≡ 0 = sym c.place.ensures ∙ omega arith in
+    (let none : slice_index c.args.tree.now.places.items c.args.arc.to ≡ 0 = sym c.place.ensures ∙ omega arith in
     found_more (net_of c.args.network.now) c.args.flows.now c.args.tree.now.places.items
-    c.args.tree.now.arrivals.items c.args.tree.now.rooms.items c.args.tree.now.queue.items c.args.source
-    c.args.edge c.args.node c.args.room
-    c.requires.tree none (c.requires.reaches none) (omega arith))
+    c.args.tree.now.arrivals.items c.args.tree.now.rooms.items c.args.tree.now.queue.items c.args.arc.from
+    c.args.arc.edge c.args.arc.to c.args.arc.room
+    c.requires.tree none (c.requires.arc.reaches none) (omega arith))
 
 pub returns-clause-grown : goal.returns-clause-grown
 returns-clause-grown c =
-    let none : slice_index c.args.tree.now.places.items c.args.node ≡ 0 = sym c.place.ensures ∙ omega arith in
+    let none : slice_index c.args.tree.now.places.items c.args.arc.to ≡ 0 = sym c.place.ensures ∙ omega arith in
     rw (c.in_ok-put.ensures.places, c.in_ok-put.ensures.queue, length_push)
-    (grown_more c.args.tree.now.places.items (length c.args.tree.now.queue.items) c.args.node none
-    (omega (arith, c.requires.tree.places_count, c.requires.inside)))
+    (grown_more c.args.tree.now.places.items (length c.args.tree.now.queue.items) c.args.arc.to none
+    (omega (arith, c.requires.tree.places_count, c.requires.arc.to_inside)))
