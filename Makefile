@@ -1,7 +1,8 @@
 # Builds Flowcheck, installs it, and makes an archive of it.
 #
-#     make            builds the program, by the Rattle kit: the first time it proves all that it stands on, for an hour,
-#                     with a line for each crate; after the gate, .ci/run, it takes the program that the gate has built
+#     make            builds the program, by the Rattle kit: the first time it proves all that it stands on, for half an
+#                     hour or more, with a line for each crate; after the gate, .ci/run, it takes the program that the
+#                     gate has built
 #     make demo       builds the program, and runs the first example of the README whole, with its page
 #     make install    installs the built program with its man page, completions, scripts, guests and documents
 #     make uninstall  removes what was installed
