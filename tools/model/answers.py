@@ -15,7 +15,7 @@ from worked_trial import trial_line
 
 MOST_TURNS, MOST_SECRETS, MOST_WORD = 20_000_000, 64, 0xFFFFFFFF
 MOST_PATHS, USUAL_PATHS = 1 << 20, 1 << 16
-FLAGS = {("report", "--json"), ("bound", "--list"), ("bound", "--any-public")}
+FLAGS = {("report", "--json"), ("bound", "--list"), ("bound", "--any-public"), ("bound", "--hold")}
 PROGRAM, PUBLIC, SECRET, TEXT, REGIONS = 1 << 24, 1 << 20, 1 << 16, 1 << 26, 1 << 16
 NUMBERS = {"--turns": (1, MOST_TURNS), "--rules": (1, 3), "--cut": (1, 2), "--paths": (1, MOST_PATHS)}
 OPTIONS = {
@@ -189,7 +189,7 @@ def bound_answer(files, plain, options):
     listed = listed_regions(files, program, public, options.get("--regions"), cut=cut)
     numbers = (("--rules", 1), ("--turns", USUAL_TURNS), ("--paths", USUAL_PATHS))
     table, turns, paths = (int(options.get(*number)) for number in numbers)
-    limits = int(budget), turns, paths, "--any-public" in options
+    limits = int(budget), turns, paths, "--any-public" in options, "--hold" in options
     return Bounds(Task(Image(files[program]), files[public], listed, read_cut(files[cut]), table, *limits)).text(
         "--list" in options)
 

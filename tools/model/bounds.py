@@ -10,8 +10,11 @@ a state all of whose paths are known, and as many turns and bits are left as the
 import collections
 
 from cuts import VisitMasks, places_of, slot_width
-from guest import BREAK, EXIT, EXIT_GROUP, READ, SECRET, WRITE, GuestExit, GuestFault, ReplayGuest, ReplayStop, shown
+from guest import (
+    BREAK, EXIT, EXIT_GROUP, READ, SECRET, WRITE, GuestExit, GuestFault, RealGuest, RegionBreak, ReplayGuest, ReplayStop, shown,
+)
 from instructions import ALL, WIDTHS, decode
+from region_runs import Endings, NotShown, RegionRun
 from rules import loaded_mask, result_mask
 from states import Below, Known, Place, copied, fits, meetings_of, repeating
 from verdicts import walk
@@ -23,6 +26,26 @@ IMPLICIT = ("ad", "de", "nr", "a0", "a1", "a2", "ou", "st")
 
 class Unclear(Exception):
     """The walk of a path ends so that nothing is known of all secrets; the text is the reason."""
+
+
+class HeldGuest(ReplayGuest):
+    """The guest of a walk with which regions are to hold: what would break one ends the walk."""
+
+    def __init__(self, *arguments):
+        super().__init__(*arguments)
+        self.masks = None
+
+    def settle_kept(self, region):
+        """Every kept register must be what it was at the entry, and neither then nor now may a bit of it differ."""
+        for number in region.keep:
+            is_open = self.masks.registers[number] or self.masks.at_entry[number]
+            before, after = self.at_entry[number], self.registers[number]
+            if is_open or before != after:
+                text = f"keep x{number} before {shown(before)} after {shown(after)}"
+                raise RegionBreak(f"region {region.number} {text}")
+
+    declare_register, declare_bytes = RealGuest.declare_register, RealGuest.declare_bytes
+    declare_call = RealGuest.declare_call
 
 
 class TurnMasks:
@@ -194,9 +217,11 @@ class Walk:
     with a text, or `met` with what is below a state. It may be `Unclear`."""
 
     def __init__(self, task, path):
-        self.guest = ReplayGuest(task.image, task.walked_public(), bytes(task.cut.secret_length), task.regions)
+        inputs = task.walked_public(), bytes(task.cut.secret_length), task.regions
+        self.guest = (HeldGuest if task.holds else ReplayGuest)(task.image, *inputs)
         self.cut_masks = VisitMasks(task.cut)
-        self.masks = TurnMasks(task.table, self.guest, PUBLIC_MASK if task.is_any_public else 0)
+        self.masks = self.guest.masks = TurnMasks(task.table, self.guest, PUBLIC_MASK if task.is_any_public else 0)
+        self.endings, self.output = None, 0
         self.task, self.path, self.choices, self.crossed, self.free, self.regions = task, path, [], 0, [], 0
         self.made, self.ending, self.unclear = 0, None, None
         self.repeating = {point: repeating(*masks) for point, masks in task.cut.points.items()}
@@ -206,7 +231,7 @@ class Walk:
         """The same walk, to go on along another path that begins with the same choices."""
         other = copied(self)
         other.guest, other.cut_masks, other.masks = map(copied, (self.guest, self.cut_masks, self.masks))
-        other.masks.guest, other.path = other.guest, path
+        other.masks.guest, other.guest.masks, other.path = other.guest, other.masks, path
         return other
 
     def run(self, meet=lambda walk: None):
@@ -240,6 +265,7 @@ class Walk:
         is_skipped = guest.kind() == "enter" and guest.by_enter[guest.pc].number in task.cut.skip
         masks = self.masks.turn(is_skipped)
         try:
+            self.endings = self.hold() if is_skipped and task.holds else None
             self.walk_turn(guest.turn(is_skipped), masks)
         except GuestExit as exited:
             self.ending = ("exited", exited.status)
@@ -249,8 +275,19 @@ class Walk:
         except ReplayStop as stop:
             self.ending = ("stopped", str(stop))
             return
+        except (RegionBreak, NotShown) as reason:
+            raise Unclear(f"hold {reason}") from None
         if self.crossed > task.budget:
             raise Unclear(f"budget {task.budget} needed {self.crossed}")
+
+    def hold(self):
+        """The endings of the region that is skipped next, whose turns count."""
+        guest, task = self.guest, self.task
+        region, left = guest.by_enter[guest.pc], task.turns - self.made + 1
+        run = RegionRun(task.table, guest, self.masks, region, guest.starts_of(region), left, task.turns)
+        task.runs.append(run)
+        self.made, self.output = self.made + run.turns - 1, 0
+        return Endings(run.endings)
 
     def walk_turn(self, turn, masks):
         """Walks the turn of the guest and that of the masks side by side."""
@@ -268,10 +305,27 @@ class Walk:
             return
         raise AssertionError("a mask that no visit has")
 
+    def pass_output(self, crossing):
+        """What goes on of the next output of a region that holds, and its mask: a bit that has one value in all endings
+        that are possible is known; of the others those that cross are chosen."""
+        index, self.output = self.output, self.output + 1
+        chosen = 0
+        for place in places_of(crossing):
+            bit = place.bit_length() - 1
+            value = self.endings.known(index, bit)
+            if value is None:
+                value = self.choose()
+                self.endings.keep(index, bit, value)
+            chosen |= place * value
+        bits = self.endings.bits(index)
+        return bits.value & ~crossing | chosen, bits.mask & ~crossing
+
     def pass_visit(self, visit, mask):
         """What goes on at a visit whose value has this mask, and what is left of the mask."""
         slot, value, crossing = visit[2], visit[3], self.cut_masks.mask_of(visit)
         self.crossed += crossing.bit_count()
+        if self.endings:
+            return self.pass_output(crossing)
         is_output = slot in ("ou", "st")
         for place in places_of(crossing & mask):
             bit = 0 if is_output else self.choose()
@@ -296,11 +350,12 @@ class Walk:
 
 class Task:
     """What is walked: a program on its public input, or on any of that length, its regions, a cut, the table of the
-    rules, and the limits."""
+    rules, the limits, and whether regions are to hold: then `runs` are those of regions that did."""
 
-    def __init__(self, image, public, regions, cut, table, budget, turns, paths, is_any_public=False):
+    def __init__(self, image, public, regions, cut, table, budget, turns, paths, is_any_public=False, holds=False):
         self.image, self.public, self.regions, self.cut, self.table = image, public, regions, cut, table
         self.budget, self.turns, self.paths, self.is_any_public = budget, turns, paths, is_any_public
+        self.holds, self.runs = holds, []
 
     def walked_public(self):
         """The public input of the walks: zeros where it may be any."""
@@ -428,7 +483,7 @@ class Bounds:
             lines += [self.first] if self.first else []
         bits = (outputs - 1).bit_length() if outputs else 0
         lines.append(
-            f"bounded {task.lengths()} regions {len(task.regions)} paths {counted(self.paths)} "
+            f"bounded {task.lengths()} regions {len(task.regions)}{' held' * task.holds} paths {counted(self.paths)} "
             f"stopped {counted(self.stopped)} outputs {counted(outputs)} bits {bits}"
         )
         return 0, "\n".join(lines) + "\n"
