@@ -27,7 +27,8 @@ def task_of(files, words):
     table, turns, paths = (int(options.get(*pair)) for pair in (
         ("--rules", 1), ("--turns", USUAL_TURNS), ("--paths", USUAL_PATHS)
     ))
-    cut, limits = read_cut(files[plain[2]]), (int(plain[3]), turns, paths, "--any-public" in options)
+    flags = "--any-public" in options, "--hold" in options
+    cut, limits = read_cut(files[plain[2]]), (int(plain[3]), turns, paths, *flags)
     return Task(Image(files[plain[0]]), files[plain[1]], regions, cut, table, *limits)
 
 
