@@ -8,7 +8,8 @@ upstream of decisions, where the values are made by which is decided; and region
 learnt of random secrets until none of 200 breaks one, and judged by the outputs that `bound` counts. The best is kept.
 Beside that the guest is run on 1,000 random secrets, or on all where there are fewer, by qemu where it is there, else
 by the model: how many different outputs these have is a number below which no bound can be. Where both are the same it
-ends, else when every way was tried, when the seconds are over, or at Ctrl-C; what was found until then is printed.
+ends, else when every way was tried, when the seconds are over, at Ctrl-C or at TERM. What was found until then is
+printed.
 
   --seconds N          the seconds in all; 60 without it
   --any-public         of any public input of the length of PUBLIC, not of PUBLIC alone
@@ -16,7 +17,7 @@ ends, else when every way was tried, when the seconds are over, or at Ctrl-C; wh
   --rules N            this table of mask rules alone
   --turns N            as of `bound`
   --output NAME        writes what is printed into NAME, the cut into NAME.cut and regions that were found into
-                       NAME.regions; `best.bound` without it
+                       NAME.regions, both as soon as they are found; `best.bound` without it
   --flowcheck COMMAND  the program; without it FLOWCHECK, else the one built or installed with this, else the model
 
 Prints a line for each way that was tried, then in words what is bounded, and the words that ask again. The status is 0
@@ -30,9 +31,10 @@ sys.path[:0] = [os.path.join(HERE, "explain"), os.path.join(HERE, "model")]
 from answering import Program
 from best_bound import BestBound
 from best_words import best_lines, keep_files
+from bounding import NoBound
 from run_facts import Inputs, read
 from run_words import add_options, length_of, look_at_secrets, number, option_words, parser_of
-from tool import finish, look_at_place, program_of, told, wrapped, write_text
+from tool import finish, look_at_place, program_of, stop_at_term, told, wrapped, write_text
 
 NOTHING = "Nothing was found within the time: --seconds gives more"
 
@@ -57,7 +59,7 @@ def best_of(words, tell):
     secrets = words.secrets if length is None else []
     length = len(read(secrets[0])) if secrets else length
     named = Program(words.flowcheck), inputs, program, secrets, length, words.any_public
-    search = BestBound(*named, words.seconds, tell)
+    search = BestBound(*named, words.seconds, tell, lambda found: keep_files(found, words.output))
     search.search()
     return search
 
@@ -67,7 +69,11 @@ def main():
     words = arguments()
     look_at_place(words.output)
     look_at_secrets(words.secrets)
-    search = best_of(words, lambda text: print(text, flush=True))
+    stop_at_term()
+    try:
+        search = best_of(words, lambda text: print(text, flush=True))
+    except NoBound as fault:
+        return told(str(fault), 1)
     if search.best is None:
         return told(NOTHING, 1)
     text = wrapped(best_lines(search, words.output))

@@ -19,6 +19,7 @@ from verdicts import MOST_BUDGET
 from walk_tracing import MakingWalk
 
 ROUNDS, LEAST_SECONDS, MOST_PATHS = 100, 2, 1 << 20
+MEASURED = "with the cut of"
 # How many walks are allowed one after the other, and which part of all seconds one search with so many may take.
 SHARES = {FEW_PATHS: 1 / 15, 8 * FEW_PATHS: 1 / 10, MOST_PATHS: 1 / 2}
 LIMITS = list(SHARES)
@@ -73,9 +74,10 @@ class BestBound:
     what is tried and found. After `search`, `best` is what was found best, `measured` the bits of the secrets, and
     `sample` what random secrets have shown."""
 
-    def __init__(self, asked, inputs, program, secrets, length, is_any_public, seconds, tell):
+    def __init__(self, asked, inputs, program, secrets, length, is_any_public, seconds, tell, keep=lambda _: None):
         self.asked, self.inputs, self.program, self.secrets, self.length = asked, inputs, program, secrets, length
-        self.is_any_public, self.tell, self.begin, self.seconds = is_any_public, tell, time.monotonic(), seconds
+        self.is_any_public, self.tell, self.keep = is_any_public, tell, keep
+        self.begin, self.seconds = time.monotonic(), seconds
         self.best, self.best_of_all, self.measured, self.calls, self.progress = None, None, None, 0, Progress()
         self.ways, self.tried, self.why = [], set(), "every way was tried"
         self.folder = tempfile.TemporaryDirectory(prefix="best-")
@@ -106,18 +108,19 @@ class BestBound:
             self.why = "it was stopped"
         finally:
             self.progress.show("")
-        self.end_sample()
+            self.end_sample()
         return self.best
 
     def end_sample(self):
         """Lets the runs on random secrets come to their end, where there is time."""
         try:
             if self.why != "it was stopped" and not self.is_exact():
-                with within(max(self.left() / 2, LEAST_SECONDS)):
+                with within(max(self.left(), LEAST_SECONDS)):
                     self.sample.finish()
         except (OutOfTime, KeyboardInterrupt):
             pass
-        self.sample.stop()
+        finally:
+            self.sample.stop()
 
     def try_all(self):
         """Tries all ways with few walks, those without regions first, and goes on with more."""
@@ -194,6 +197,7 @@ class BestBound:
         self.tell(told)
         if self.best is None or found.rank() < self.best.rank():
             self.best = found
+            self.keep(self)
         if answer.is_of_all() and (self.best_of_all is None or found.rank() < self.best_of_all.rank()):
             self.best_of_all = found
 
@@ -223,13 +227,23 @@ class BestBound:
         for rules in [named] if named else (SEARCH_RULES, "2", "1"):
             bounding = self.bounding(rules=rules)
             words = f"table {rules}" + ("" if self.inputs.option("--regions") else ", no region")
-            with within(self.slice()):
-                beginnings = self.beginnings(bounding)
-            if self.secrets and self.measured is None:
+            beginnings = self.begun(words, bounding)
+            if self.measured is None and beginnings[0][0].startswith(MEASURED):
                 self.measured = beginnings[0][1].bits
             way = Way(words, bounding, beginnings)
             way.is_late = rules not in (SEARCH_RULES, named)
             yield way
+
+    def begun(self, words, bounding):
+        """The cuts that a way begins with: where the secrets can't be measured in time, the one without a point alone."""
+        try:
+            with within(self.slice()):
+                return self.beginnings(bounding)
+        except OutOfTime:
+            self.tell(f"{words}: the secrets are not measured in time")
+        except NoBound as fault:
+            self.tell(f"{words}: the secrets are not measured: {str(fault).splitlines()[0]}")
+        return [("without a point", bounding.empty(self.length))]
 
     def beginnings(self, bounding):
         """The cuts that a way begins with."""
@@ -258,7 +272,8 @@ class BestBound:
                     task.turns = min(task.turns, WALK_TURNS)
                     walk = MakingWalk(task, [dice.randrange(2) for _ in range(MOST_BITS)]).run()
                     for origin in walk.uses.values():
-                        for passing, mask in origin.items():
+                        # Public bytes that may be any have no visit at which they could cross.
+                        for passing, mask in ((key, mask) for key, mask in origin.items() if len(key) == 2):
                             count, whole = uses.get(passing, (0, 0))
                             uses[passing] = count + 1, whole | mask
         except OutOfTime:
@@ -293,8 +308,11 @@ class BestBound:
     def candidates(self):
         """The candidates for regions, by the run on the first secret or on zeros."""
         places = Places(self.inputs.program, self.program)
-        with within(self.slice()):
-            passed = passed_points(self.asked, self.inputs, self.first_secret())
+        try:
+            with within(self.slice()):
+                passed = passed_points(self.asked, self.inputs, self.first_secret())
+        except (OutOfTime, NoBound):
+            return []
         return candidates_of(self.program, places, passed)[:MOST_CANDIDATES]
 
     def first_secret(self):

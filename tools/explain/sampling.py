@@ -121,13 +121,17 @@ class Sample:
             self.run_by_model(self.run)
 
     def stop(self):
-        """Makes no more runs."""
+        """Makes no more runs, and waits for none."""
         if self.pool:
-            self.pool.shutdown(cancel_futures=True)
+            self.is_over = True
+            self.pool.shutdown(wait=False, cancel_futures=True)
 
     def missing(self, patterns):
         """Outputs of these runs that are not of a list of patterns."""
-        return [one for one in list(self.outputs) if not any(pattern.holds(*one) for pattern in patterns)]
+        exact = {(pattern.written, pattern.status) for pattern in patterns}
+        free = [pattern for pattern in patterns if pattern.free]
+        others = [one for one in list(self.outputs) if one not in exact]
+        return [one for one in others if not any(pattern.holds(*one) for pattern in free)]
 
     def words(self, most):
         """What the runs say of the number of outputs: `most` is how many there are at most, None for no bound."""

@@ -35,6 +35,14 @@ def within(seconds):
         signal.signal(signal.SIGALRM, before)
 
 
+def stop_at_term():
+    """Lets TERM end the work as Ctrl-C does."""
+    def ring(*_):
+        raise KeyboardInterrupt
+
+    signal.signal(signal.SIGTERM, ring)
+
+
 def program_of(name):
     """The program file of a name."""
     file = read(name)
