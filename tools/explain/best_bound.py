@@ -9,6 +9,7 @@ from bound_words import least_count, power_words
 from bounding import FEW_PATHS, SEARCH_RULES, Bounding, NoBound, Search
 from cuts import Cut
 from enclosing import candidates_of, joined_regions, passed_points
+from held_spans import region_text, spans_of, stack_at
 from region_finding import Calls, NoRegion
 from region_joining import Learner, pretty_text
 from run_facts import Inputs, read
@@ -124,7 +125,7 @@ class BestBound:
 
     def try_all(self):
         """Tries all ways with few walks, those without regions first, and goes on with more."""
-        for make in (self.plain_ways, self.upstream_ways):
+        for make in (self.plain_ways, self.held_ways, self.upstream_ways):
             self.add_ways(make)
         self.go_on(LIMITS[1])
         self.add_ways(self.region_ways)
@@ -195,6 +196,8 @@ class BestBound:
             answer.cut.bits = answer.budget
             told += f": unclear: {answer.reason}"
         self.tell(told)
+        if not answer.is_bounded and found.way.bounding.holds:
+            return
         if self.best is None or found.rank() < self.best.rank():
             self.best = found
             self.keep(self)
@@ -213,13 +216,13 @@ class BestBound:
         seen = f"{len(self.sample.outputs):,} outputs of {self.sample.run:,} random secrets"
         self.progress.show(f"{self.left():.0f} s left: {text}; {least}; {seen}"[:200])
 
-    def bounding(self, regions=None, rules=None):
+    def bounding(self, regions=None, rules=None, holds=False):
         """The asking, perhaps with another region file or table; without one it is that of searches."""
         options = self.inputs.without(*["--regions"] * bool(regions), *["--rules"] * bool(rules))
         options += (["--regions", regions] if regions else []) + (["--rules", rules] if rules else [])
         options += [] if "--rules" in options else ["--rules", SEARCH_RULES]
         inputs = Inputs(self.inputs.program, self.inputs.public, None, options)
-        return Bounding(self.asked, inputs, self.program, self.is_any_public)
+        return Bounding(self.asked, inputs, self.program, self.is_any_public, holds)
 
     def plain_ways(self):
         """Without regions, by each table of the mask rules."""
@@ -304,6 +307,40 @@ class BestBound:
                 return
             chosen.append(min(tried, key=lambda item: item[0])[1])
             candidates = [one for one in candidates if one not in chosen]
+
+    def held_ways(self):
+        """Regions that are to hold: each span by itself, the widest first, and then all that lie apart together."""
+        if self.inputs.option("--regions") or not self.program.functions:
+            return
+        spans, held = spans_of(self.program, Places(self.inputs.program, self.program)), []
+        for span in spans:
+            before = self.best
+            way = self.held_way([span])
+            if way:
+                yield way
+                held += [span] if self.best is not before else []
+        apart = []
+        for span in held:
+            apart += [] if any(span.overlaps(other) for other in apart) else [span]
+        way = self.held_way(apart) if len(apart) > 1 else None
+        if way:
+            yield way
+
+    def held_way(self, spans):
+        """The way with some spans as regions that are to hold; None where no run comes to one of them soon."""
+        secret = self.known[0] if self.known else bytes(self.length)
+        try:
+            with within(self.slice()):
+                stacks = [stack_at(self.program.image, read(self.inputs.public), secret, span.enter) for span in spans]
+            text = None if None in stacks else region_text(self.program, spans, stacks)
+        except (OutOfTime, NoRegion):
+            return None
+        if text is None:
+            return None
+        name = self.written(f"held{len(self.ways)}", text.encode())
+        bounding = self.bounding(regions=name, holds=True)
+        words = " and ".join(f"held: {span.words}" for span in spans)
+        return Way(words, bounding, [("without a point", bounding.empty(self.length))], regions=text)
 
     def candidates(self):
         """The candidates for regions, by the run on the first secret or on zeros."""

@@ -70,7 +70,8 @@ class Answer:
         self.cut, self.budget, self.line = cut, budget, text.rstrip("\n").split("\n")[-1]
         self.patterns = [Pattern(line) for line in text.split("\n") if line.startswith("output ")]
         self.stopped_line = next((line for line in text.split("\n") if line.startswith("stopped ")), None)
-        words = self.line.split()
+        words = [word for word in self.line.split() if word != "held"]
+        self.holds = " held " in self.line
         self.is_bounded = words[0] == "bounded"
         self.reason = None if self.is_bounded else " ".join(words[5:])
         if self.is_bounded:
@@ -82,17 +83,17 @@ class Answer:
         return not self.is_bounded and self.reason.startswith("paths ")
 
     def is_of_all(self):
-        """Whether it is said of all secrets: there is no region and no path stopped."""
-        return self.is_bounded and self.numbers["regions"] == self.numbers["stopped"] == 0
+        """Whether it is said of all secrets: no path stopped, and there is no region, or each holds."""
+        return self.is_bounded and self.numbers["stopped"] == 0 and (self.holds or self.numbers["regions"] == 0)
 
 
 class Bounding:
-    """The asking about one program on its public input, or on any of its length. `options` are words of `bound` with a
-    value each; `inputs` names the files."""
+    """The asking about one program on its public input, or on any of its length, with regions that are to hold or not.
+    `options` are words of `bound` with a value each; `inputs` names the files."""
 
-    def __init__(self, asked, inputs, program, is_any_public=False):
+    def __init__(self, asked, inputs, program, is_any_public=False, holds=False):
         self.asked, self.inputs, self.program, self.regions = asked, inputs, program, inputs.regions()
-        self.public, self.is_any_public = read(inputs.public), is_any_public
+        self.public, self.is_any_public, self.holds = read(inputs.public), is_any_public, holds
         numbers = (("--rules", 1), ("--turns", USUAL_TURNS), ("--paths", USUAL_PATHS))
         words = [inputs.option(name) or str(usual) for name, usual in numbers]
         if not all(word.isdigit() for word in words):
@@ -123,7 +124,7 @@ class Bounding:
 
     def flags(self):
         """The words without a value."""
-        return ["--any-public"] if self.is_any_public else []
+        return ["--any-public"] * self.is_any_public + ["--hold"] * self.holds
 
     def again(self, cut_name, answer):
         """The words that ask again with a file of the cut."""
@@ -132,7 +133,7 @@ class Bounding:
 
     def task(self, cut, budget):
         """What is walked, for the model."""
-        limits = budget, self.turns, self.paths, self.is_any_public
+        limits = budget, self.turns, self.paths, self.is_any_public, self.holds
         return Task(self.program.image, self.public, self.regions, cut, self.table, *limits)
 
     def walk(self, answer):
@@ -153,7 +154,8 @@ class Bounding:
 
 class Search:
     """A search for a cut that begins with one and gives it what it lacks, in some rounds and with so many walks. `tell`
-    is told of each. What a decision is made of crosses in its place where that has a few bits, at most `few`."""
+    is told of each. What a decision is made of crosses in its place where that has a few bits, at most `few`. Where
+    regions are to hold, no path is walked by the model, which would run them too: the slot that is left crosses."""
 
     def __init__(self, bounding, rounds, paths, tell, few=0):
         self.bounding, self.rounds, self.paths, self.tell, self.few = bounding, rounds, paths, tell, few
@@ -171,10 +173,16 @@ class Search:
                 least, raised = int(words[3]), raised + 1
                 budget = min(max(least, budget + (1 << raised - 1)), MOST_BUDGET)
                 self.tell(f"{answer.reason}: budget {budget}")
-                if raised % LOOK_FOR_LOOPS == 0:
+                if raised % LOOK_FOR_LOOPS == 0 and not self.bounding.holds:
                     walk = self.bounding.walk(answer)
                     if endless_of(walk):
                         return answer, walk
+                continue
+            if self.bounding.holds:
+                lines = self.added(cut, slot_of(words))
+                if not lines:
+                    return answer, None
+                self.tell(f"{answer.reason}: {', '.join(lines)}")
                 continue
             walk = self.bounding.walk(answer)
             if walk.unclear != answer.reason and words[0] not in ("paths", "outputs"):
@@ -183,7 +191,7 @@ class Search:
             if not lines:
                 return answer, walk
             self.tell(f"{answer.reason}: {', '.join(lines)}")
-        return answer, self.bounding.walk(answer)
+        return answer, None if self.bounding.holds else self.bounding.walk(answer)
 
     @staticmethod
     def copied(cut):
@@ -218,6 +226,11 @@ class Search:
                 cut.points[point] = [], [(1, masks)]
                 lines.append(f"point {point[0]} {shown(point[1])} {point[2]} rest {shown(masks)}")
         return lines
+
+
+def slot_of(words):
+    """The point that a reason names, with its bits, if it names one."""
+    return {(int(words[1]), int(words[2], 16), words[3]): int(words[5], 16)} if words[0] == "left" else {}
 
 
 def limits_of(paths):
