@@ -238,7 +238,7 @@ class BestBound:
             yield way
 
     def begun(self, words, bounding):
-        """The cuts that a way begins with: where the secrets can't be measured in time, the one without a point alone."""
+        """The cuts that a way begins with; one without a point where the secrets can't be measured in time."""
         try:
             with within(self.slice()):
                 return self.beginnings(bounding)

@@ -78,7 +78,8 @@ def stack_at(image, public, secret, address):
 
 def data_of(program):
     """The bytes that the program may write, by its sections: addresses and lengths."""
-    return [(section[3], section[5]) for section in program.sections() if section[2] & WRITTEN == WRITTEN and section[5]]
+    written = [section for section in program.sections() if section[2] & WRITTEN == WRITTEN]
+    return [(section[3], section[5]) for section in written if section[5]]
 
 
 def declared(program, spans, stacks):

@@ -10,12 +10,14 @@ from hand_made import exit_words, read_words
 from instructions import ALL
 from program_files import BASE, plain_file
 from worked_trial import number_word
-from words import ADD, AUIPC, EBREAK, ECALL, JALR, LOAD, Writer, branch_word, immediate_word, jump_word, register_word, store_word
+from words import ADD, AUIPC, EBREAK, ECALL, JALR, LOAD, Writer
+from words import branch_word, immediate_word, jump_word, register_word, store_word
 
 STACK, SECRET, TABLE, ARRAY, COUNTER, LINK = 2, 8, 9, 20, 21, 1
 WORK, TABLE_AT, ARRAY_AT = (5, 6, 7, 18, 19, 28, 29), 0x81, 0x82
-OPERATIONS = [(0, 0), (0x20, 0), (0, 4), (0, 6), (0, 7), (0, 2), (0, 3), (1, 0), (1, 5), (1, 7), (0, 1), (0, 5), (0x20, 5)]
-BRANCHES, IMMEDIATES, FEW = (0, 1, 4, 5, 6, 7), (0, 2, 3, 4, 6, 7), (1, 2, 3, 3, 4, 7, 7, 8, 12, 15, 15, 31, 63, 128, 255)
+OPERATIONS = [(0, minor) for minor in range(8)] + [(0x20, 0), (0x20, 5), (1, 0), (1, 5), (1, 7)]
+BRANCHES, IMMEDIATES = (0, 1, 4, 5, 6, 7), (0, 2, 3, 4, 6, 7)
+FEW = (1, 2, 3, 3, 4, 7, 7, 8, 12, 15, 15, 31, 63, 128, 255)
 
 
 class HeldGuest:
@@ -64,7 +66,8 @@ class HeldGuest:
         """Loads of the secret."""
         minor = self.dice.choice([4, 4, 4, 0, 2, 5, 1])
         width = {4: 1, 0: 1, 2: 4, 5: 2, 1: 2}[minor]
-        self.put(immediate_word(minor, self.register(), SECRET, self.dice.randrange(max(1, self.length - width + 1)), LOAD))
+        place = self.dice.randrange(max(1, self.length - width + 1))
+        self.put(immediate_word(minor, self.register(), SECRET, place, LOAD))
 
     def work(self):
         """An operation with two registers."""
@@ -82,7 +85,8 @@ class HeldGuest:
     def index(self, most):
         """A register with a number below some power of two, in place."""
         register = self.register()
-        self.put(immediate_word(7, register, self.any(), self.dice.choice([most - 1, most - 1, most // 2 - 1, most - 2])))
+        kept = self.dice.choice([most - 1, most - 1, most // 2 - 1, most - 2])
+        self.put(immediate_word(7, register, self.any(), kept))
         return register
 
     def look_up(self):
@@ -101,7 +105,7 @@ class HeldGuest:
             return
         index = self.index(16)
         minor = self.dice.choice([0, 0, 0, 1, 2])
-        self.put(*[immediate_word(7, index, index, -4)] * (minor == 2), *[immediate_word(7, index, index, -2)] * (minor == 1))
+        self.put(*[immediate_word(7, index, index, -2 * minor)] * (minor > 0))
         self.put(register_word(ADD, index, ARRAY, index), store_word(minor, index, self.any(), 0))
 
     def take_back(self):
@@ -140,7 +144,8 @@ class HeldGuest:
         begin = self.writer.here
         self.put(*[immediate_word(0, 19, 19, self.dice.choice([1, 3]))] * self.happens(0.6))
         self.written.add(19)
-        self.put(self.dice.choice([immediate_word(0, register, register, -1)] * 3 + [immediate_word(5, register, register, 1)]))
+        less, half = immediate_word(0, register, register, -1), immediate_word(5, register, register, 1)
+        self.put(self.dice.choice([less, less, less, half]))
         self.writer.place(self.writer.put_branch(1, register, 0), begin)
         self.writer.place(label)
 
@@ -158,10 +163,12 @@ class HeldGuest:
         """A jump to one of a few places."""
         dice, register = self.dice, self.register()
         count = dice.choice([2, 4])
-        self.put(immediate_word(7, register, self.any(), count - 1), immediate_word(1, register, register, dice.choice([3, 3, 3, 3, 2, 1])))
+        self.put(immediate_word(7, register, self.any(), count - 1))
+        self.put(immediate_word(1, register, register, dice.choice([3, 3, 3, 3, 2, 1])))
         base = dice.choice([one for one in WORK if one != register])
         self.written.add(base)
-        self.put(0 << 12 | base << 7 | AUIPC, register_word(ADD, register, base, register), immediate_word(0, 0, register, 12, JALR))
+        self.put(base << 7 | AUIPC, register_word(ADD, register, base, register))
+        self.put(immediate_word(0, 0, register, 12, JALR))
         labels = []
         for number in range(count):
             self.put(immediate_word(0, 19, 0, number))
@@ -188,15 +195,16 @@ class HeldGuest:
         dice = self.dice
         self.put(dice.choice([
             ECALL, EBREAK, 0, immediate_word(2, 5, self.any(), 0, LOAD), store_word(0, self.any(), 5, 0),
-            immediate_word(0, 30, 0, 1), immediate_word(0, 0, self.any(), 0, JALR), jump_word(0, 2), branch_word(0, 0, self.any(), 0),
-            store_word(0, ARRAY, 5, 40), immediate_word(0, SECRET, SECRET, 1), jump_word(0, 0),
+            immediate_word(0, 30, 0, 1), immediate_word(0, 0, self.any(), 0, JALR), jump_word(0, 2),
+            branch_word(0, 0, self.any(), 0), store_word(0, ARRAY, 5, 40), immediate_word(0, SECRET, SECRET, 1),
+            jump_word(0, 0),
         ]))
         self.written |= {5}
 
     def some(self):
         """A few pieces."""
-        kinds = [self.take, self.take, self.work, self.change, self.look_up, self.keep_byte, self.take_back, self.decide,
-                 self.decide, self.rounds, self.count_down, self.swap, self.jump, self.go_deeper]
+        kinds = [self.take, self.take, self.work, self.change, self.look_up, self.keep_byte, self.take_back,
+                 self.decide, self.decide, self.rounds, self.count_down, self.swap, self.jump, self.go_deeper]
         for _ in range(self.dice.choice([1, 1, 2, 2, 3])):
             if len(self.writer.words) < 180:
                 self.dice.choice(kinds if self.depth < 3 else kinds[:7])()
@@ -261,8 +269,8 @@ class HeldGuest:
             self.put(store_word(0, TABLE, register, place))
         self.put(immediate_word(0, 18, dice.choice(shown), 0))
         source, count = dice.choice([(TABLE, 3), (TABLE, 1), (ARRAY, 2), (ARRAY, 4)])
-        self.put(number_word(10, 1), immediate_word(0, 11, source, 0), number_word(12, count), number_word(17, 64), ECALL)
-        self.put(number_word(10, 0))
+        self.put(number_word(10, 1), immediate_word(0, 11, source, 0), number_word(12, count), number_word(17, 64))
+        self.put(ECALL, number_word(10, 0))
         if self.happens(0.5):
             label = self.writer.put_branch(dice.choice(BRANCHES), 18, dice.choice([0, dice.choice(shown)]))
             self.put(number_word(10, 1))
@@ -276,7 +284,8 @@ class HeldGuest:
 def item_of(region):
     """A region as an item of a region file."""
     names = [[f"x{number}" for number in numbers] for numbers in (region.outs, region.keep)]
-    ranges = [{"offset": offset, "length": length} | ({"base": f"x{base}"} if base else {}) for base, offset, length in region.ranges]
+    ranges = [{"offset": offset, "length": length} | ({"base": f"x{base}"} if base else {})
+              for base, offset, length in region.ranges]
     return {"id": region.number, "enter": f"0x{region.enter:x}", "leave": f"0x{region.leave:x}",
             "outs": names[0], "keep": names[1], "ranges": ranges}
 

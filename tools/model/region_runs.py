@@ -136,7 +136,8 @@ class RegionRun:
     limit. `turns` and `endings` are what it finds."""
 
     def __init__(self, rules, guest, masks, region, starts, left, limit):
-        self.rules, self.guest, self.masks, self.region, self.left, self.limit = rules, guest, masks, region, left, limit
+        self.rules, self.guest, self.masks, self.region = rules, guest, masks, region
+        self.left, self.limit = left, limit
         self.spans = [(start, start + length) for start, (_, _, length) in zip(starts, region.ranges)]
         self.turns, self.endings, self.steps, self.joins, self.most_waiting = 0, [], 0, 0, 1
         self.waiting, self.order = {}, []
@@ -360,8 +361,8 @@ class RegionRun:
         if isinstance(cell, Table) and all(one is not None for one in bits.values()):
             values = [self.value_at(piece, name, address, width) for address in cell.values]
             return settled(Table(cell.unknown, tuple(values)), piece.sets)
-        return covering(
-            bits_of(loaded(name, self.cells_at(piece, address, width), piece.sets), piece.sets) for address in addresses)
+        cells = [loaded(name, self.cells_at(piece, address, width), piece.sets) for address in addresses]
+        return covering(bits_of(one, piece.sets) for one in cells)
 
     def clean_bytes(self, piece, address, width):
         """The bytes at an address, where none may differ; else None."""
