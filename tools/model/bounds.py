@@ -11,8 +11,8 @@ import collections
 
 from cuts import VisitMasks, places_of, slot_width
 from guest import (
-    BREAK, EXIT, EXIT_GROUP, READ, SECRET, WRITE, GuestExit, GuestFault, RealGuest, RegionBreak, ReplayGuest, ReplayStop,
-    shown,
+    BREAK, EXIT, EXIT_GROUP, READ, SECRET, WRITE, GuestExit, GuestFault, RealGuest, RegionBreak, ReplayGuest,
+    ReplayStop, shown,
 )
 from instructions import ALL, WIDTHS, decode
 from region_runs import Endings, NotShown, RegionRun

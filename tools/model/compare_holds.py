@@ -4,8 +4,8 @@
 Bounds the outputs of N random guests (400 without the option) from this seed (1 without it) on by `bound --hold`, by
 the model: guests whose regions look secrets up, compare, sort and loop by them. Every second one is bounded with
 --any-public too, all with the option. Where a guest is bounded, secrets are run: all of one byte, else 60 at random,
-and some public inputs. No region may be broken but by a range outside memory, a run may be stopped or not exit only where a
-path stops, and each other output must be one of the list. The number of outputs must be within the budget.
+and some public inputs. No region may be broken but by a range outside memory, a run may be stopped or not exit only
+where a path stops, and each other output must be one of the list. The number of outputs must be within the budget.
 
 With an executable, its `bound` must answer as the model does: the whole text where that is bounded, else the status and
 the path.
