@@ -1,7 +1,7 @@
 """Looks for the least bound of all outputs that secrets of one length can give, within some seconds.
 
 Call: best.py PROG PUBLIC LENGTH|SECRET... [--seconds N] [--any-public] [--regions FILE] [--turns N] [--rules N]
-              [--output NAME] [--flowcheck COMMAND]
+              [--most N] [--output NAME] [--flowcheck COMMAND]
 
 It tries one way after another, first with few walks and then with more: no region, by each table of mask rules; cuts
 upstream of decisions, where the values are made by which is decided; and regions around calls and loops, which are
@@ -16,12 +16,13 @@ printed.
   --regions FILE       a region file; then no other regions are tried
   --rules N            this table of mask rules alone
   --turns N            as of `bound`
+  --most N             fails, with status 4 and a line, where more than N outputs are found or no number is known
   --output NAME        writes what is printed into NAME, the cut into NAME.cut and regions that were found into
                        NAME.regions, both as soon as they are found; `best.bound` without it
   --flowcheck COMMAND  the program; without it FLOWCHECK, else the one built or installed with this, else the model
 
 Prints a line for each way that was tried, then in words what is bounded, and the words that ask again. The status is 0
-where it is bounded, 1 where it is not."""
+where it is bounded, 1 where it is not, 4 where --most says so."""
 import os
 import sys
 
@@ -33,7 +34,7 @@ from best_bound import BestBound
 from best_words import best_lines, keep_files
 from bounding import NoBound
 from run_facts import Inputs, read
-from run_words import add_options, length_of, look_at_secrets, number, option_words, parser_of
+from run_words import add_options, length_of, look_at_secrets, number, option_words, parser_of, too_many
 from tool import finish, look_at_place, program_of, stop_at_term, told, wrapped, write_text
 
 NOTHING = "Nothing was found within the time: --seconds gives more"
@@ -47,6 +48,7 @@ def arguments():
     parser.add_argument("--seconds", type=number(1, kind=float), default=60, metavar="N")
     parser.add_argument("--any-public", action="store_true")
     add_options(parser, "regions", "turns", "rules")
+    parser.add_argument("--most", type=number(1), metavar="N")
     parser.add_argument("--output", default="best.bound")
     return parser.parse_intermixed_args()
 
@@ -75,12 +77,12 @@ def main():
     except NoBound as fault:
         return told(str(fault), 1)
     if search.best is None:
-        return told(NOTHING, 1)
+        return too_many(None, words.most) or told(NOTHING, 1)
     text = wrapped(best_lines(search, words.output))
     print(f"It ended as {search.why}.\n{text}")
     keep_files(search, words.output)
     write_text(words.output, text.lstrip("\n") + "\n")
-    return 0 if search.best.answer.is_bounded else 1
+    return too_many(search.best.outputs(), words.most) or (0 if search.best.answer.is_bounded else 1)
 
 
 if __name__ == "__main__":

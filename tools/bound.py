@@ -1,7 +1,7 @@
 """Looks for a cut with which `bound` says all outputs that secrets of one length can give.
 
 Call: bound.py PROG PUBLIC LENGTH|SECRET... [--any-public] [--regions FILE] [--turns N] [--rules N] [--paths N]
-               [--rounds N] [--output FILE] [--flowcheck COMMAND]
+               [--rounds N] [--most N] [--output FILE] [--flowcheck COMMAND]
 
 It begins with the cut of the secrets, as `measure` or `measure-all` writes it; or of a LENGTH in bytes with a cut that
 has no point and skips each region of the file. Where `bound` is unclear at a point, the point gets a line, or what its
@@ -12,6 +12,7 @@ many walks, until there are as many as are allowed.
 
   --any-public         of any public input of the length of PUBLIC, not of PUBLIC alone; `measure` takes PUBLIC
   --rounds N           at most so many calls of `bound` from a beginning; 100 without it
+  --most N             fails, with status 4 and a line, where more than N outputs are found or no number is known
   --output FILE        the file of the cut; `bound.cut` without it
   --rules N            the table of mask rules; 3 without it
   --regions, --turns, --paths  as of `bound`
@@ -29,11 +30,11 @@ HERE = os.path.dirname(os.path.abspath(__file__))
 sys.path[:0] = [os.path.join(HERE, "explain"), os.path.join(HERE, "model")]
 
 from answering import Program
-from bound_words import bounded_lines, unclear_lines
+from bound_words import bounded_lines, least_count, unclear_lines
 from bounding import SEARCH_RULES, Bounding, NoBound, found
 from parting import Parting
 from run_facts import Inputs
-from run_words import add_options, length_of, look_at_secrets, number, option_words, parser_of
+from run_words import add_options, length_of, look_at_secrets, number, option_words, parser_of, too_many
 from sampling import trust_of
 from source_lines import Places
 from tool import finish, look_at_place, program_of, told, wrapped, write_text
@@ -50,6 +51,7 @@ def arguments():
     parser.set_defaults(rules=int(SEARCH_RULES))
     parser.add_argument("--any-public", action="store_true")
     parser.add_argument("--rounds", type=number(1), default=100)
+    parser.add_argument("--most", type=number(1), metavar="N")
     parser.add_argument("--output", default="bound.cut")
     return parser.parse_intermixed_args()
 
@@ -95,7 +97,8 @@ def main():
         parting = parting_of(bounding, answer)
         print(wrapped(unclear_lines(answer, walk, program, Places(words.program, program), again, parting, beside)))
     write_text(words.output, answer.cut.text())
-    return 0 if answer.is_bounded else 1
+    outputs = least_count(answer.numbers) if answer.is_bounded else None
+    return too_many(outputs, words.most) or (0 if answer.is_bounded else 1)
 
 
 if __name__ == "__main__":

@@ -50,7 +50,8 @@ def best_lines(search, name):
     lines, bounding = beside_lines(search), way.bounding
     if answer.is_bounded:
         public = search.inputs.public
-        return bounded_lines(answer, public, bounding.turns, search.measured, again, lines)
+        seen = list(search.sample.outputs)
+        return bounded_lines(answer, public, bounding.turns, search.measured, again, lines, seen)
     parting = Parting(bounding.task(answer.cut, answer.budget)) if answer.is_waiting() else None
     places = Places(search.inputs.program, search.program)
     return unclear_lines(answer, search.best.walk, search.program, places, again, parting, lines)

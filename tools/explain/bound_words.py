@@ -165,16 +165,17 @@ def number_words(number, word):
     return f"- {word}s (2^64 or more)" if number is None else f"{number:,} {word}{'' if number == 1 else 's'}"
 
 
-def output_lines(patterns, most):
-    """The patterns as they are shown, at most so many."""
-    lines = [f"    {pattern.text()}" for pattern in patterns[:most]]
+def output_lines(patterns, most, seen=()):
+    """The patterns as they are shown, at most so many; those of which an output was seen are marked."""
+    marks = [", seen" * any(pattern.holds(*one) for one in seen) for pattern in patterns[:most]]
+    lines = [f"    {pattern.text()}{mark}" for pattern, mark in zip(patterns, marks)]
     return lines + ([f"    and {len(patterns) - most:,} more"] if len(patterns) > most else [])
 
 
-def bounded_lines(answer, public, turns, bits, again, beside=()):
-    """What stands, as lines; `beside` are lines of what else is known."""
+def bounded_lines(answer, public, turns, bits, again, beside=(), seen=()):
+    """What stands, as lines; `beside` are lines of what else is known, and `seen` outputs that runs had."""
     lines = ["", claim(answer, turns), numbers_words(answer, bits)]
-    lines += output_lines(answer.patterns, MOST_SHOWN)
+    lines += output_lines(answer.patterns, MOST_SHOWN, seen)
     lines += [FREE_WORDS] if any(pattern.free for pattern in answer.patterns) else []
     lines += [f"First path that stops: {answer.stopped_line}"] if answer.stopped_line else []
     lines += beside

@@ -40,6 +40,15 @@ def option_words(words, *names):
     return [word for name, value in given if value is not None for word in (f"--{name}", str(value))]
 
 
+def too_many(outputs, most):
+    """The status of a build that wants at most so many outputs, with a line where there may be more; else 0."""
+    if most is None or outputs is not None and outputs <= most:
+        return 0
+    found = "no number is known" if outputs is None else f"there may be {outputs:,}"
+    print(f"At most {most:,} outputs are wanted, and {found}.", file=sys.stderr)
+    return 4
+
+
 def parser_of(text):
     """The parser of a script whose help is this text, which says the call too."""
     parser = argparse.ArgumentParser(description=text, formatter_class=argparse.RawDescriptionHelpFormatter,
