@@ -1,10 +1,11 @@
 #!/usr/bin/env python3
-"""Bounds fifteen guests of usual kinds by `make NAME.bound` alone, and says beside each how many outputs there are.
+"""Bounds guests of usual kinds by `make NAME.bound` alone, and says beside each how many outputs there are.
 
-Call: kinds_table.py [--guest NAME...] [--compiler NAME] [--seconds N] [--flowcheck COMMAND]
+Call: kinds_table.py [--enclosed] [--guest NAME...] [--compiler NAME] [--seconds N] [--flowcheck COMMAND]
 
-The guests are those of guests/kinds and of examples/truth, made by gcc or by what --compiler names. The true number of
-outputs was counted by hand; GUESTS says how. Prints a table: the bytes of the secret, the true number, the bits that
+The guests are fifteen of guests/kinds and of examples/truth, or with --enclosed those of guests/enclosed, which want a
+region; they are made by gcc or by what --compiler names. The true number of outputs was counted by hand; the lists
+below say how. Prints a table: the bytes of the secret, the true number, the bits that
 `measure` has of one secret, the bound of the outputs and of their bits, how it was come to, how many outputs the random
 secrets gave, and the seconds of `make` by the clock. The last line counts the guests that were answered, those that
 were exact, and those whose bound is below the truth, for which the status is 1. The program is the option, or
@@ -44,6 +45,19 @@ GUESTS = [
     ("sum", "tools/guests/kinds", b"", bytes([10, 20, 30, 40]), 1021),  # 0 to 1020
     ("price", "examples/truth", b"", b"k", 32),  # five bits, each another price
 ]
+ENCLOSED = [(name, "tools/guests/enclosed", *rest) for name, *rest in (
+    ("aes", bytes(range(32)), bytes(range(16)), 2),  # genuine or not
+    ("age", b"20261202", b"19800229", 3),  # no date, younger, not younger
+    ("base64", b"", b"QUJDREVGR0hJSktM", 4),  # 10, 11 or 12 bytes, or none
+    ("crypt", bytes(range(16)), b"correcthorse", 2),  # right or not
+    ("distance", b"kitten", b"sittin", 4),  # 0, 1, 2, or more
+    ("filter", b"MargaretJonathanAlbertinNicholas", b"Victoria", 2),  # may be there or not
+    ("json", b"", b'{"a": true}     ', 3),  # none, no and yes
+    ("price", b"", bytes(range(3, 51, 3)), 256),  # any byte, if all are it
+    ("redacted", b"", b"room 12 at half past", 2),  # with a digit or without one
+    ("sorted", b"", bytes(range(3, 51, 3)), 256),  # any byte, if all are it
+    ("votes", b"", b"ABCABCABAABBDDACBACBADBC", 4),  # four candidates
+)]
 
 
 class Kind(GuestFolder):
@@ -77,7 +91,8 @@ class Kind(GuestFolder):
     def way(self):
         """Of which secrets it speaks, and how many of the random ones break no region."""
         covered = re.search(r"those of (\d+ of \d+) random secrets", self.text)
-        return f"regions, {covered[1]}" if covered else "of all secrets"
+        held = "of all secrets, regions hold" if " --hold" in self.text else "of all secrets"
+        return f"regions, {covered[1]}" if covered else held
 
     def row(self):
         """The cells of the table."""
@@ -92,14 +107,16 @@ class Kind(GuestFolder):
 def main():
     """Makes the table."""
     parser = argparse.ArgumentParser(description=__doc__, formatter_class=argparse.RawDescriptionHelpFormatter)
-    parser.add_argument("--guest", nargs="+", default=[guest[0] for guest in GUESTS], metavar="NAME")
+    parser.add_argument("--enclosed", action="store_true")
+    parser.add_argument("--guest", nargs="+", metavar="NAME")
     parser.add_argument("--compiler", default="gcc", metavar="NAME")
     parser.add_argument("--seconds", type=int, default=60, metavar="N")
     parser.add_argument("--flowcheck", default=os.environ.get("FLOWCHECK"), metavar="COMMAND")
     words, answered, exact, wrong = parser.parse_args(), 0, 0, []
     print("| Guest | Secret, bytes | True outputs | Measured, bits | Bound | Bits | Of | Seen | Seconds |")
     print("|---|---|---|---|---|---|---|---|---|")
-    chosen = [guest for guest in GUESTS if guest[0] in words.guest]
+    guests = ENCLOSED if words.enclosed else GUESTS
+    chosen = [guest for guest in guests if words.guest is None or guest[0] in words.guest]
     for guest in chosen:
         with tempfile.TemporaryDirectory(prefix="kinds-") as folder:
             kind = Kind(folder, guest, words)

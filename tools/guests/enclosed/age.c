@@ -17,9 +17,9 @@ static int number(const char *digits, int count)
 
 __attribute__((noinline)) static int is_of_age(void)
 {
-    static const signed char days[12] = {31, 29, 31, 30, 31, 30, 31, 31, 30, 31, 30, 31};
+    static const signed char days[16] __attribute__((aligned(16))) = {0, 31, 29, 31, 30, 31, 30, 31, 31, 30, 31, 30, 31};
     int year = number(birth, 4), month = number(birth + 4, 2), day = number(birth + 6, 2);
-    if (year < 1900 || month < 1 || month > 12 || day < 1 || day > days[month - 1])
+    if (year < 1900 || month < 1 || month > 12 || day < 1 || day > days[month & 15])
         return -1;
     int age = number(today, 4) - year;
     int now = number(today + 4, 4), then = 100 * month + day;
