@@ -2,6 +2,7 @@
  * tells -1 for a date that is none, 0 for a person that is younger, 1 for one that is not. */
 #include "flowcheck.h"
 
+static const signed char days[16] __attribute__((aligned(16))) = {0, 31, 29, 31, 30, 31, 30, 31, 31, 30, 31, 30, 31};
 static char birth[8], today[8];
 
 static int number(const char *digits, int count)
@@ -17,7 +18,6 @@ static int number(const char *digits, int count)
 
 __attribute__((noinline)) static int is_of_age(void)
 {
-    static const signed char days[16] __attribute__((aligned(16))) = {0, 31, 29, 31, 30, 31, 30, 31, 31, 30, 31, 30, 31};
     int year = number(birth, 4), month = number(birth + 4, 2), day = number(birth + 6, 2);
     if (year < 1900 || month < 1 || month > 12 || day < 1 || day > days[month & 15])
         return -1;
