@@ -18,8 +18,8 @@ static int number(const char *digits, int count)
 
 __attribute__((noinline)) static int is_of_age(void)
 {
-    int year = number(birth, 4), month = number(birth + 4, 2), day = number(birth + 6, 2);
-    if (year < 1900 || month < 1 || month > 12 || day < 1 || day > days[month & 15])
+    int year = number(birth, 4), month = number(birth + 4, 2), day = number(birth + 6, 2), most = days[month & 15];
+    if (year < 1900 || month < 1 || month > 12 || day < 1 || day > most)
         return -1;
     int age = number(today, 4) - year;
     int now = number(today + 4, 4), then = 100 * month + day;
