@@ -18,8 +18,9 @@ static int number(const char *digits, int count)
 
 __attribute__((noinline)) static int is_of_age(void)
 {
-    int year = number(birth, 4), month = number(birth + 4, 2), day = number(birth + 6, 2), most = days[month & 15];
-    if (year < 1900 || month < 1 || month > 12 || day < 1 || day > most)
+    int year = number(birth, 4), month = number(birth + 4, 2), day = number(birth + 6, 2), place = month & 15;
+    __asm__("" : "+r"(place)); /* or the compiler takes the mask away, since it knows that no month is above 12 */
+    if (year < 1900 || month < 1 || month > 12 || day < 1 || day > days[place])
         return -1;
     int age = number(today, 4) - year;
     int now = number(today + 4, 4), then = 100 * month + day;
