@@ -114,6 +114,23 @@ FLOWCHECK_MEMORY int memcmp(const void *one, const void *other, size_t count)
     return 0;
 }
 
+/* The heap of malloc, where a guest takes it from a C library: an array, so that it makes no guest call. FLOWCHECK_HEAP
+ * says how many bytes it has. There is none in a guest that does not call malloc. */
+#ifndef FLOWCHECK_HEAP
+#define FLOWCHECK_HEAP 65536
+#endif
+
+__attribute__((weak, noinline, section(".text.flowcheck_heap"))) void *sbrk(ptrdiff_t count)
+{
+    __attribute__((section(".bss.flowcheck_heap"), aligned(16))) static char heap[FLOWCHECK_HEAP];
+    static size_t used;
+    if (count < 0 ? (size_t)-count > used : (size_t)count > sizeof heap - used)
+        return (void *)-1;
+    char *begin = heap + used;
+    used += (size_t)count;
+    return begin;
+}
+
 /* The start: sets gp, which GNU ld's relaxation counts on, calls main, and exits with what it returns. It is weak, as
  * several files may bring it. */
 __asm__(".section .text._start, \"ax\", @progbits\n"
