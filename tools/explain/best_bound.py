@@ -20,7 +20,7 @@ from verdicts import MOST_BUDGET
 from walk_tracing import MakingWalk
 
 ROUNDS, LEAST_SECONDS, MOST_PATHS = 100, 2, 1 << 20
-MEASURED = "with the cut of"
+MEASURED, FEW_TURNS, MOST_TURNS = "with the cut of", "refused 4 turns", 20_000_000
 # How many walks are allowed one after the other, and which part of all seconds one search with so many may take.
 SHARES = {FEW_PATHS: 1 / 15, 8 * FEW_PATHS: 1 / 10, MOST_PATHS: 1 / 2}
 LIMITS = list(SHARES)
@@ -228,25 +228,31 @@ class BestBound:
         """Without regions, by each table of the mask rules."""
         named = self.inputs.option("--rules")
         for rules in [named] if named else (SEARCH_RULES, "2", "1"):
-            bounding = self.bounding(rules=rules)
             words = f"table {rules}" + ("" if self.inputs.option("--regions") else ", no region")
-            beginnings = self.begun(words, bounding)
+            bounding, beginnings = self.begun(words, rules)
             if self.measured is None and beginnings[0][0].startswith(MEASURED):
                 self.measured = beginnings[0][1].bits
             way = Way(words, bounding, beginnings)
             way.is_late = rules not in (SEARCH_RULES, named)
             yield way
 
-    def begun(self, words, bounding):
-        """The cuts that a way begins with; one without a point where the secrets can't be measured in time."""
+    def begun(self, words, rules):
+        """The asking by a table of rules, and the cuts that a way begins with; one without a point where the secrets
+        can't be measured in time. A run that wants more turns gets as many as there may be."""
+        bounding = self.bounding(rules=rules)
         try:
             with within(self.slice()):
-                return self.beginnings(bounding)
+                return bounding, self.beginnings(bounding)
         except OutOfTime:
             self.tell(f"{words}: the secrets are not measured in time")
         except NoBound as fault:
-            self.tell(f"{words}: the secrets are not measured: {str(fault).splitlines()[0]}")
-        return [("without a point", bounding.empty(self.length))]
+            told = str(fault).splitlines()[0]
+            if told.startswith(FEW_TURNS) and not self.inputs.option("--turns"):
+                self.inputs.options += ["--turns", str(MOST_TURNS)]
+                self.tell(f"A run wants more than {bounding.turns:,} turns: each gets {MOST_TURNS:,}")
+                return self.begun(words, rules)
+            self.tell(f"{words}: the secrets are not measured: {told}")
+        return bounding, [("without a point", bounding.empty(self.length))]
 
     def beginnings(self, bounding):
         """The cuts that a way begins with."""

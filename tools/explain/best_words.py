@@ -1,8 +1,13 @@
 """The best bound that was found, in words: what it says, what random secrets say beside it, and how to ask again."""
 from bound_words import bounded_lines, power_words, unclear_lines
+from misleading import of_reads
 from parting import Parting
+from running import reads_of
 from source_lines import Places
-from tool import write_text
+from tool import OutOfTime, within, write_text
+from verdicts import real_run
+
+LOOKED_TURNS, LOOKED_SECONDS = 200_000, 5
 
 
 def again_words(search, name):
@@ -24,7 +29,7 @@ def keep_files(search, name):
 
 def beside_lines(search):
     """What is known beside the best bound."""
-    best, lines = search.best, []
+    best, lines = search.best, reads_lines(search)
     if best.way.trust and best.answer.is_bounded:
         lines += [best.way.trust.covers_words(), *without_lines(search)]
     missing = search.sample.missing(best.answer.patterns) if best.answer.is_bounded else []
@@ -34,6 +39,18 @@ def beside_lines(search):
     elif missing:
         lines.append(f"{len(missing):,} of these are not in the list: their runs break a region, or do not end.")
     return lines
+
+
+def reads_lines(search):
+    """What is to be said of how much of the secret a short run reads."""
+    if not search.secrets:
+        return []
+    try:
+        with within(LOOKED_SECONDS):
+            run = real_run(search.program.image, search.sample.inputs_of(0)[0], search.known[0], [], LOOKED_TURNS)
+    except OutOfTime:
+        return []
+    return of_reads(*reads_of(run.guest)[1], search.secrets[0]) if run.ending[0] == "exited" else []
 
 
 def without_lines(search):
