@@ -354,7 +354,7 @@ class BestBound:
         try:
             with within(self.slice()):
                 passed = passed_points(self.asked, self.inputs, self.first_secret())
-        except (OutOfTime, NoBound):
+        except (OutOfTime, NoBound, NoRegion):
             return []
         return candidates_of(self.program, places, passed)[:MOST_CANDIDATES]
 

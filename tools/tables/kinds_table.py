@@ -13,6 +13,7 @@ FLOWCHECK, or the built one, or the model."""
 import argparse
 import os
 import re
+import struct
 import subprocess
 import sys
 import tempfile
@@ -50,13 +51,27 @@ ENCLOSED = [(name, "tools/guests/enclosed", *rest) for name, *rest in (
     ("age", b"20261202", b"19800229", 3),  # no date, younger, not younger
     ("base64", b"", b"QUJDREVGR0hJSktM", 4),  # 10, 11 or 12 bytes, or none
     ("crypt", bytes(range(16)), b"correcthorse", 2),  # right or not
+    ("decades", b"", bytes(range(10, 90, 5)), 9),  # none, few or more in each of two decades
     ("distance", b"kitten", b"sittin", 4),  # 0, 1, 2, or more
+    ("fence", struct.pack("<12h", 0, 0, 90, 10, 120, 70, 60, 40, 20, 90, -30, 50), struct.pack("<2h", 30, 30), 2),
     ("filter", b"MargaretJonathanAlbertinNicholas", b"Victoria", 2),  # may be there or not
+    ("heap", b"", bytes([1, 5, 5, 2, 9, 7, 7, 3]), 2),  # with equal neighbours or without
+    ("hmac", bytes(range(48)), bytes(range(16)), 2),  # genuine or not
     ("json", b"", b'{"a": true}     ', 3),  # none, no and yes
+    ("matches", b"a.*bc*d.", b"axxbccdz", 2),  # it matches or not
+    ("one_time", bytes(8) + b"755224", bytes(range(16)), 2),  # right or not
     ("price", b"", bytes(range(3, 51, 3)), 256),  # any byte, if all are it
     ("redacted", b"", b"room 12 at half past", 2),  # with a digit or without one
+    ("salary", b"", struct.pack("<I", 45000), 5),  # five ranges
+    ("score", b"", b"correct1Ho", 3),  # weak, fair, strong
+    ("shorter", b"", b"aaabbbbbbbcddddd", 16),  # one to sixteen runs
+    ("siphash", bytes(range(16)), bytes(range(16)), 2),  # genuine or not
     ("sorted", b"", bytes(range(3, 51, 3)), 256),  # any byte, if all are it
+    ("sums", b"", b"ann,12\nbob,300\ncarol,77\n", 257),  # any byte, or a line that is none
+    ("tree", b"", bytes([50, 30, 20, 3]), 3),  # no, maybe, yes
     ("votes", b"", b"ABCABCABAABBDDACBACBADBC", 4),  # four candidates
+    # Three marks at five places, but none with one letter elsewhere and all others there.
+    ("words", b"crane", b"caper", 238),
 )]
 
 
