@@ -11,6 +11,7 @@ secrets gave, and the seconds of `make` by the clock. The last line counts the g
 were exact, and those whose bound is below the truth, for which the status is 1. The program is the option, or
 FLOWCHECK, or the built one, or the model."""
 import argparse
+import glob
 import os
 import re
 import struct
@@ -22,7 +23,7 @@ import time
 TOOLS = os.path.dirname(os.path.dirname(os.path.abspath(__file__)))
 sys.path[:0] = [os.path.join(TOOLS, name) for name in ("explain", "model", "guests")]
 
-from guest_folder import MAKEFILE, GuestFolder
+from guest_folder import MAKEFILE, GuestFolder, content
 
 RECORDS = bytes([25, 1, 35, 2, 70, 2, 40, 2, 33, 1, 59, 2, 20, 2, 31, 3, 60, 1, 90, 2])
 # The name, the folder, the public input, the secret, and the true number of outputs with how it was counted.
@@ -84,6 +85,8 @@ class Kind(GuestFolder):
         self.length = len(secret)
         self.write(f"{self.name}.public", public)
         self.write(f"{self.name}.secret", secret)
+        for header in sorted(glob.glob(os.path.join(TOOLS, "..", place, "*.h"))):
+            self.write(os.path.basename(header), content(os.path.relpath(header, os.path.dirname(TOOLS))))
         self.built(words.compiler, f"{place}/{self.name}.c")
         begin = time.monotonic()
         command = ["make", "-s", "-f", MAKEFILE, f"COMPILER={words.compiler}", f"SECONDS={words.seconds}"]
