@@ -3,8 +3,8 @@
 
 Call: kinds_table.py [--enclosed] [--guest NAME...] [--compiler NAME] [--seconds N] [--flowcheck COMMAND]
 
-The guests are fifteen of guests/kinds and of examples/truth, or with --enclosed those of guests/enclosed, which want a
-region; they are made by gcc or by what --compiler names. The true number of outputs was counted by hand; the lists
+The guests are fifteen of guests/kinds and of examples/truth, or with --enclosed those of examples/enclosed, which want
+a region; they are made by gcc or by what --compiler names. The true number of outputs was counted by hand; the lists
 below say how. Prints a table: the bytes of the secret, the true number, the bits that
 `measure` has of one secret, the bound of the outputs and of their bits, how it was come to, how many outputs the random
 secrets gave, and the seconds of `make` by the clock. The last line counts the guests that were answered, those that
@@ -47,7 +47,7 @@ GUESTS = [
     ("sum", "tools/guests/kinds", b"", bytes([10, 20, 30, 40]), 1021),  # 0 to 1020
     ("price", "examples/truth", b"", b"k", 32),  # five bits, each another price
 ]
-ENCLOSED = [(name, "tools/guests/enclosed", *rest) for name, *rest in (
+ENCLOSED = [(name, "examples/enclosed", *rest) for name, *rest in (
     ("aes", bytes(range(32)), bytes(range(16)), 2),  # genuine or not
     ("age", b"20261202", b"19800229", 3),  # no date, younger, not younger
     ("base64", b"", b"QUJDREVGR0hJSktM", 4),  # 10, 11 or 12 bytes, or none
