@@ -1,0 +1,4 @@
+pub mod ByteSets
+pub mod Covers
+pub mod Decisions
+pub mod Loops

@@ -1,0 +1,12 @@
+pub mod FirstItems
+pub mod RealSteps
+pub mod Writes
+pub mod SafeTurns
+pub mod StandsNext
+pub mod SafeFronts
+pub mod FirstPieces
+pub mod PieceTurns
+pub mod NamedCells
+pub mod JoinedPieces
+pub mod LeavingPieces
+pub mod PageCells

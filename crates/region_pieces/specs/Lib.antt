@@ -1,0 +1,11 @@
+pub mod HoldFaults
+pub mod ComingOut
+pub mod Turns
+pub mod Pieces
+pub mod Pages
+pub mod PageViews
+pub mod Naming
+pub mod Joining
+pub mod Leaving
+pub mod Laws
+pub mod Looks
