@@ -32,6 +32,18 @@ class Program:
         self.said = ""
         self.words = program_words() if command is None else split_words(command, "--flowcheck")
 
+    def is_model(self):
+        """Whether it is the model, which may also be named as a command."""
+        return not self.words or self.words[-1].endswith(os.path.join("model", "flowcheck.py"))
+
+    def knows(self, command, option):
+        """Whether a command has an option, by its help; the model has what it has rules for."""
+        if self.is_model():
+            return True
+        words = [*self.words, "help", command]
+        done = subprocess.run(words, stdout=subprocess.PIPE, stderr=subprocess.PIPE, check=False)
+        return option in done.stdout.decode("utf-8", "replace").split()
+
     def name(self):
         """How a user calls it."""
         return "flowcheck" if self.words else "the model of tools/model"

@@ -315,8 +315,10 @@ class BestBound:
             candidates = [one for one in candidates if one not in chosen]
 
     def held_ways(self):
-        """Regions that are to hold: each span by itself, the widest first, and then all that lie apart together."""
-        if self.inputs.option("--regions") or not self.program.functions:
+        """Regions that are to hold, where the program has a flag for that: each span by itself, the widest first, and
+        then all that lie apart together."""
+        is_asked = self.program.functions and not self.inputs.option("--regions")
+        if not is_asked or not self.asked.knows("bound", "--hold"):
             return
         spans, held = spans_of(self.program, Places(self.inputs.program, self.program)), []
         for span in spans:
