@@ -1,3 +1,4 @@
 pub mod Cells
 pub mod Deciding
 pub mod Tables
+pub mod Telling
