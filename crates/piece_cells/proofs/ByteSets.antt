@@ -1,6 +1,6 @@
 -- Which bytes are in sets that are made of others.
-use Rattle.std.proofs.Common.{◌≡◌, ◌≢◌, ℕ, zero, suc, ◌+◌, ◌*◌, ◌-◌, ◌/◌, ◌%◌, ◌^◌, ◌<◌, ◌≤◌, max, min, List, [], ◌∷◌}
-use Rattle.std.proofs.Common.{length, refl, sym, ap, ap₂, subst, ◌∙◌, ⊎_elim, arith, w64, get_or, slice_index, slice_set}
+use Rattle.std.proofs.Common.{◌≡◌, ◌≢◌, ℕ, zero, suc, ◌*◌, ◌/◌, ◌%◌, ◌^◌, ◌<◌, max, min, List, [], ◌∷◌}
+use Rattle.std.proofs.Common.{length, refl, ap, ap₂, subst, ◌∙◌, ⊎_elim, arith, w64, get_or, slice_index, slice_set}
 use Rattle.std.proofs.Common.{get_or-set_other}
 use Rattle.std.specs.Prelude.{bit_and, bit_or}
 use Rattle.std.specs.Int.{bit_at}
@@ -8,7 +8,6 @@ use Rattle.std.proofs.lemmas.Bool.{cases_eq}
 use Rattle.std.proofs.lemmas.Grind.{get_or-set_at}
 use Rattle.std.proofs.lemmas.Nat.Bits.{bit_at_and, bit_at_or, bit_at_ones, bit_at-lt, bit_at_set_same}
 use Rattle.piece_cells.specs.Cells.{Holds}
-use Rattle.piece_cells.specs.declared.byte_sets.ByteSet.{ByteSet}
 
 -- ---- the four words of all bytes
 

@@ -1,15 +1,13 @@
 -- Soundness of what is computed and decided.
-use Rattle.std.proofs.Common.{◌≡◌, ℕ, ◌/◌, ◌%◌, ◌^◌, ◌<◌, Bool, true, false, refl, sym, ap, subst, ◌∙◌, ⊎_elim, arith}
-use Rattle.std.specs.Int.{bit_at}
+use Rattle.std.proofs.Common.{◌≡◌, ℕ, ◌/◌, ◌%◌, ◌^◌, Bool, true, false, refl, sym, ap, subst, ◌∙◌, ⊎_elim, arith}
 use Rattle.std.proofs.lemmas.Bool.{cases_lt}
-use Rattle.std.proofs.lemmas.Nat.{mod_below}
 use Rattle.std.proofs.lemmas.Nat.Bits.{bit_at_above}
 use Rattle.flow_base.specs.Words.{Agree}
 use Rattle.rv32im_decode.specs.declared.instructions.BranchKind.{BranchKind}
 use Rattle.rv32im_decode.specs.declared.instructions.OpKind.{OpKind}
 use Rattle.rv32im_decode.specs.Operations.{decision, is_taken, word_of_truth}
 use Rattle.rv32im_machine.specs.declared.language.Operation.{Operation}
-use Rattle.rv32im_machine.specs.declared.language.Operation.TheVariants.{Result, Decision, Target}
+use Rattle.rv32im_machine.specs.declared.language.Operation.TheVariants.{Result, Decision}
 use Rattle.rv32im_machine.specs.declared.language.Part.{Part}
 use Rattle.rv32im_machine.specs.declared.language.Part.TheVariants.{Byte0, Byte1, Byte2, Byte3}
 use Rattle.rv32im_machine.specs.Language.{computed, part_of}

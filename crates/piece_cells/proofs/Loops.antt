@@ -1,5 +1,6 @@
 -- What holds up to one index more, after a write to it.
-use Rattle.std.proofs.Common.{◌≡◌, ◌≢◌, ℕ, ◌+◌, ◌<◌, List, length, get_or, slice_set, sym, subst, arith, below_more}
+use Rattle.std.proofs.Common.{◌≢◌, ℕ, ◌+◌, ◌<◌, List, length, get_or, slice_set, sym, subst, arith, below_more, false}
+use Rattle.std.specs.Prelude.{IsTrue}
 use Rattle.std.proofs.Common.{get_or-set_other, get_or-set_same}
 use Rattle.piece_cells.specs.Cells.{Holds}
 use Rattle.piece_cells.specs.declared.byte_sets.ByteSet.{ByteSet}
@@ -20,3 +21,7 @@ pub holds_more : (P : ℕ → Type 0) (old new : ByteSet) (i : ℕ) → i < 256 
     (k : ℕ) → k < i + 1 → P k → Holds new k
 holds_more P old new i inside before kept here =
     below_more (λ k. P k → Holds new k) i (λ k h p. kept k (omega arith) (before k h p)) here
+
+-- no test that failed has succeeded
+pub never : IsTrue false → ⊥
+never so = grind arith

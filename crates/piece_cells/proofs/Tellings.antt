@@ -1,6 +1,5 @@
 -- What bits that are told say of a word.
-use Rattle.std.proofs.Common.{◌≡◌, ◌≢◌, ℕ, zero, suc, ◌+◌, ◌-◌, ◌*◌, ◌/◌, ◌%◌, ◌^◌, ◌<◌, ◌≤◌, max, min}
-use Rattle.std.proofs.Common.{Bool, true, false}
+use Rattle.std.proofs.Common.{◌≡◌, ◌≢◌, ℕ, zero, suc, ◌+◌, ◌-◌, ◌*◌, ◌/◌, ◌%◌, ◌^◌, ◌<◌, ◌≤◌, max, min, Bool, true, false}
 use Rattle.std.proofs.Common.{refl, sym, ap, ap₂, subst, ◌∙◌, ⊎_elim, arith, int_lt, nat_le, nat_lt, w32, cond}
 use Rattle.std.specs.Prelude.{bit_and, bit_or, bit_xor}
 use Rattle.std.specs.Int.{bit_at, leading_zeros, trailing_zeros}
@@ -8,14 +7,12 @@ use Rattle.std.proofs.Math.Nat.{div-le_self}
 use Rattle.std.proofs.lemmas.Bool.{cases_eq, cases_lt}
 use Rattle.std.proofs.lemmas.Int.{ints}
 use Rattle.std.proofs.lemmas.Nat.{leading_length, one_shl}
-use Rattle.std.proofs.lemmas.Nat.Bits.{bit_at_and, bit_at_or, bit_at_xor, bit_at_above, bit_at_ones}
-use Rattle.std.proofs.lemmas.Nat.Bits.{bit_at-lt, bit_at-zero}
+use Rattle.std.proofs.lemmas.Nat.Bits.{bit_at_and, bit_at_or, bit_at_xor, bit_at_above, bit_at_ones, bit_at-lt, bit_at-zero}
 use Rattle.std.proofs.lemmas.Nat.Bits.{bit_at-pow_other, bit_at-trailing_zeros, ones_shr, same_from_bits}
 use Rattle.flow_base.specs.Words.{Agree}
 use Rattle.rv32im_decode.specs.Operations.{signed}
 use Rattle.transfer_rules.specs.Table1.{flipped}
 use Rattle.transfer_rules.specs.Table2.{least}
-use Rattle.transfer_rules.proofs.Agreement.{same_where_none}
 use Rattle.transfer_rules.proofs.BitRules.{bit_flipped}
 use Rattle.transfer_rules.proofs.Bounds.{bit_least}
 use Rattle.piece_cells.specs.Telling.{AgreesUnder, IsOneBit}
@@ -52,8 +49,7 @@ pub none_contradicts :
 none_contradicts m u v k x fm fu h told = same_from_bits (bit_and (bit_and (bit_xor v k) u) (flipped m)) 0 (λ i. ⊎_elim
     (λ inside.
     bit_at_and (bit_and (bit_xor v k) u) (flipped m) i
-    ∙ ap₂ min (bit_at_and (bit_xor v k) u i ∙ ap (λ b. min b (bit_at u i)) (bit_at_xor v k i))
-    (bit_flipped m i fm inside)
+    ∙ ap₂ min (bit_at_and (bit_xor v k) u i ∙ ap (λ b. min b (bit_at u i)) (bit_at_xor v k i)) (bit_flipped m i fm inside)
     ∙ one_contradicts (bit_at m i) (bit_at u i) (bit_at v i) (bit_at k i) (bit_at x i) (bit_at-lt u i) (h i) (told i)
     ∙ sym (bit_at-zero i))
     (λ high.
@@ -67,6 +63,13 @@ none_contradicts m u v k x fm fu h told = same_from_bits (bit_and (bit_and (bit_
     no_bit a b c e = omega arith
 
 -- ---- words up to a limit
+
+pub above_zero : (most word : ℕ) → most < 2 ^ 32 → leading_zeros w32 most ≡ 32 → word ≤ most → (mask : ℕ) → AgreesUnder mask 0 word
+above_zero most word fits zeros within mask i one =
+    let long = leading_length 32 most fits in
+    let none : long.0 ≡ 0 = omega (arith, long.1, zeros) in
+    let short : most < 2 ^ 0 = subst (λ m. most < 2 ^ m) none long.2 in
+    ap (λ n. bit_at n i) (sym (omega (arith, short, within)))
 
 pub above_limit : (most word : ℕ) → most < 2 ^ 32 → word ≤ most →
     AgreesUnder (flipped (4294967295 / 2 ^ leading_zeros w32 most)) 0 word
@@ -180,8 +183,3 @@ other_bit m v w x fm fv fw fx h single known differs i one = ⊎_elim
         (λ (some : bit_at m j ≢ 0).
         let e : i ≡ j = single i j one (omega (arith, bit_at-lt m j)) in subst (λ k. bit_at x k ≡ bit_at w k) e same)
         (cases_eq (bit_at m j) 0)
-
--- ---- bits without a mask
-
-pub is_value : (m v x : ℕ) → m ≡ 0 → Agree m v x → v ≡ x
-is_value m v x none h = same_where_none v x (subst (λ k. Agree k v x) none h)

@@ -1,8 +1,7 @@
 -- Which words a cell may stand for, and what is known of the unknown bytes.
-use Rattle.std.specs.Prelude.{◌≡◌, ◌≢◌, ℕ, ◌/◌, ◌%◌, ◌<◌, ◌^◌, All, List, Option, Some, None, slice_index}
+use Rattle.std.specs.Prelude.{◌≡◌, ◌≢◌, ℕ, ◌/◌, ◌%◌, ◌<◌, All, List, Option, Some, None, slice_index}
 use Rattle.std.specs.Int.{bit_at}
 use Rattle.flow_base.specs.Words.{Agree}
-use Rattle.piece_cells.specs.Tables.{WordTable}
 use Rattle.piece_cells.specs.declared.byte_sets.ByteSet.{ByteSet}
 use Rattle.piece_cells.specs.declared.cells.Bits.{Bits}
 use Rattle.piece_cells.specs.declared.cells.Cell.{Cell}

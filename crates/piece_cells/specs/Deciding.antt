@@ -1,5 +1,5 @@
 -- What is computed and decided from two cells.
-use Rattle.std.specs.Prelude.{◌≡◌, ℕ, ◌<◌, ◌^◌, List, Bool, true, false, Option, Some, None}
+use Rattle.std.specs.Prelude.{◌≡◌, ℕ, ◌<◌, ◌^◌, List, true, false, Option, Some, None}
 use Rattle.rv32im_decode.specs.declared.instructions.BranchKind.{BranchKind}
 use Rattle.rv32im_decode.specs.Operations.{is_taken}
 use Rattle.rv32im_machine.specs.declared.language.Operation.{Operation}

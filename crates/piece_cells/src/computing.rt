@@ -49,7 +49,9 @@ pub fn by_table(
     unknown: Unknown,
     values: Vec<u32>,
     unknowns: &Unknowns,
-) -> Result<Cell, NoMemory> {
+) -> Result<Cell, NoMemory>
+    ensures { IfOk result (λ cell. IsAt unknowns.now unknown (slice_index values.items) cell) }
+{
     let mut words = [0u32; 256];
     for at in 0..256usize {
         words[at] = word_or_zero(values.as_slice(), at);
@@ -72,7 +74,9 @@ fn value_of(operation: Operation, first: u32, second: u32) -> u32
 }
 
 /// The mask that the book's rule answers for an operation.
-fn answered_mask(book: &RuleBook, operation: Operation, operands: Operands) -> u32 {
+fn answered_mask(book: &RuleBook, operation: Operation, operands: Operands) -> u32
+    ensures { KeepsMask operands result (computed operation) }
+{
     match operation {
         Operation::Result(kind) => book.mask(class_of_operation(kind), operands),
         Operation::Decision(kind) => book.mask(class_of_branch(kind), operands),
@@ -86,7 +90,10 @@ pub(crate) fn mask_of_operation(
     operation: Operation,
     first: Bits,
     second: Bits,
-) -> u32 {
+) -> u32
+    ensures { (one other : ℕ) → one < 2 ^ 32 → other < 2 ^ 32 → HasBits first one → HasBits second other →
+        Agree result (computed operation first.value second.value) (computed operation one other) }
+{
     if first.mask | second.mask == 0 {
         return 0;
     }
@@ -136,7 +143,9 @@ pub fn compute(
     first: &Cell,
     second: &Cell,
     unknowns: &Unknowns,
-) -> Result<Cell, NoMemory> {
+) -> Result<Cell, NoMemory>
+    ensures { IfOk result (λ cell. Computes operation unknowns.now first.now second.now cell) }
+{
     let Some(unknown) = unknown_of(first, second) else {
         let first = bits_of(first, unknowns);
         let second = bits_of(second, unknowns);

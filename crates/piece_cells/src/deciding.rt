@@ -63,7 +63,10 @@ fn decide_by_table(
 }
 
 /// What is decided of bits.
-fn decide_bits(book: &RuleBook, kind: BranchKind, first: Bits, second: Bits) -> Decided {
+fn decide_bits(book: &RuleBook, kind: BranchKind, first: Bits, second: Bits) -> Decided
+    ensures { (bytes : Bytes) (one other : ℕ) → one < 2 ^ 32 → other < 2 ^ 32 → HasBits first one →
+        HasBits second other → IsDecided kind result bytes one other }
+{
     if mask_of_operation(book, Operation::Decision(kind), first, second) == 0 {
         Decided::Known(kind.is_taken(first.value, second.value))
     } else {
@@ -79,7 +82,9 @@ pub fn decide(
     first: &Cell,
     second: &Cell,
     unknowns: &Unknowns,
-) -> Decided {
+) -> Decided
+    ensures { Each unknowns.now first.now second.now (IsDecided kind result) }
+{
     if let Some(unknown) = unknown_of(first, second) {
         return decide_by_table(kind, first, second, unknown, unknowns.set_of(unknown));
     }
@@ -92,7 +97,10 @@ pub fn decide(
 }
 
 /// Of the bytes of a set those at which the word of a table has these bits.
-pub fn agreeing(table: &Table, set: ByteSet, bits: Bits) -> ByteSet {
+pub fn agreeing(table: &Table, set: ByteSet, bits: Bits) -> ByteSet
+    ensures { (byte : ℕ) → byte < 256 → Holds set byte → HasBits bits (slice_index table.now.values byte) →
+        Holds result byte }
+{
     let mut bytes = ByteSet::empty();
     for at in 0..256u16 {
         let byte = at as u8;

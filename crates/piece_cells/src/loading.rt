@@ -101,7 +101,10 @@ pub fn part_of(
     cell: &Cell,
     part: Part,
     unknowns: &Unknowns,
-) -> Result<Cell, NoMemory> {
+) -> Result<Cell, NoMemory>
+    ensures { IfOk result (λ byte. (bytes : Bytes) (word : ℕ) → Knows unknowns.now bytes → Has bytes cell.now word →
+        Has bytes byte (part_of part word)) }
+{
     match cell {
         Cell::Bits(bits) => Ok(Cell::Bits(Bits {
             value: byte_of(bits.value, part),

@@ -55,7 +55,9 @@ pub fn name_word(alloc: Global, bits: Bits, unknown: Unknown) -> Result<(Cell, B
 
 /// The cell of a byte that has these bits, which is an unknown byte that is new, and the bytes that this may be. The one
 /// error is `NoMemory`.
-pub fn name_byte(alloc: Global, bits: Bits, unknown: Unknown) -> Result<(Cell, ByteSet), NoMemory> {
+pub fn name_byte(alloc: Global, bits: Bits, unknown: Unknown) -> Result<(Cell, ByteSet), NoMemory>
+    ensures { IfOk result (λ named. Names bits unknown named.1 named.0 (λ word. word < 256)) }
+{
     let mut set = ByteSet::empty();
     let mut words = [0u32; 256];
     for at in 0..256u32 {

@@ -1,6 +1,6 @@
 //! Unknown bytes, and which values each may have.
 
-ghost use Rattle.std.specs.Prelude.{◌≡◌, All, IfOk, IsTrue};
+ghost use Rattle.std.specs.Prelude.{◌≡◌, All, IfOk};
 ghost use Rattle.piece_cells.specs.Cells.{Bytes, Holds, IsIn, Knows, Renames};
 
 use crate::byte_sets::ByteSet;
@@ -54,7 +54,10 @@ fn replaced(known: Known, unknown: Unknown, set: ByteSet) -> Known
     }
 }
 
-fn replace_each(known: &mut [Known], unknown: Unknown, set: ByteSet) {
+fn replace_each(known: &mut [Known], unknown: Unknown, set: ByteSet)
+    ensures { (before now : Bytes) → Renames unknown set before now → All (IsIn before) known.old →
+        All (IsIn now) known.new }
+{
     for at in 0..known.len() {
         known[at] = replaced(known[at], unknown, set);
     }

@@ -1,4 +1,4 @@
-use Rattle.std.proofs.Common.{◌<◌, ◌^◌, arith}
+use Rattle.std.proofs.Common.{arith}
 use Rattle.piece_cells.proofs.Covers.{covers_first, covers_second}
 use Rattle.piece_cells.proofs.covering.cover.Goals as goal
 

@@ -1,9 +1,9 @@
--- The word is at most the greatest.
-use Rattle.std.proofs.Common.{rules, arith}
-use Rattle.transfer_rules.proofs.Bounds.{in_order}
+use Rattle.std.proofs.Common.{◌<◌, arith}
+use Rattle.transfer_rules.proofs.Bounds.{between, le_by_bits}
 use Rattle.piece_cells.proofs.telling.may_be_negative.Goals as goal
 
 pub returns : goal.returns
-returns c = λ word has low.
-    let most = (in_order c.args.bits.mask c.args.bits.value word (search rules) (search rules) has).1 in
-    grind (arith, most, low, c.greatest.ensures)
+returns c = λ word has is.
+    let most = between c.args.bits.mask c.args.bits.value word (omega arith) (omega arith) has in
+    let below : c.greatest.result < 2147483648 = grind (arith, is) in
+    omega (arith, le_by_bits _ _ most.to, c.greatest.ensures, below)

@@ -1,4 +1,4 @@
-use Rattle.std.proofs.Common.{◌≡◌, ◌<◌, ◌/◌, ◌^◌, ◌*◌, ◌%◌, length, arith, rules}
+use Rattle.std.proofs.Common.{◌≡◌, ◌/◌, ◌^◌, ◌*◌, ◌%◌, length, arith, rules}
 use Rattle.piece_cells.proofs.ByteSets.{insert_keeps, insert_has}
 use Rattle.piece_cells.proofs.byte_sets.ByteSet.insert.Goals as goal
 

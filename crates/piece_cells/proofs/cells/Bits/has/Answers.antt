@@ -1,4 +1,4 @@
-use Rattle.std.proofs.Common.{◌<◌, ◌^◌, eq-eqb, arith}
+use Rattle.std.proofs.Common.{eq-eqb, arith}
 use Rattle.piece_cells.proofs.Covers.{none_differs}
 use Rattle.piece_cells.proofs.cells.Bits.has.Goals as goal
 
